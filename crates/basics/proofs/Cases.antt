@@ -1,0 +1,40 @@
+-- Cases: of a test, of an index and the ones below it.
+use Prim.Native.Nat.{ℕ, suc, _≤_, _<_}
+use native.Mathlib.Omega.{arith}
+use mathlib.Core.Path.{_≡_, refl, sym, _∙_}
+use mathlib.Core.Bool.{Bool, true, false}
+use mathlib.Core.Logic.{_⊎_, inl, inr}
+use mathlib.Core.List.{List, map}
+use lib.Dec.{ltb}
+use lib.ListN.{length, length-map}
+use borrow.Author.Tests.{ltb-true, ltb-false}
+use Rattle.basics.specs.Choice.{pick}
+
+-- a test is not both
+pub never : false ≡ true → ⊥
+never e = let z : _≡_ {A = ℕ} 0 1 = cc in omega arith
+
+-- a fact of a choice, shown for each way that the test can go
+pub pick-case : {A : Type 0} (P : A → Type 0) (t : Bool) (a b : A) → (t ≡ true → P a) → (t ≡ false → P b) → P (pick t a b)
+pick-case P true a b f g = f refl
+pick-case P false a b f g = g refl
+
+-- an index below n + 1 is n or below n
+pub last-or-below : (k n : ℕ) → k < suc n → (k ≡ n) ⊎ (k < n)
+last-or-below k n h = by (ltb k n) refl
+  where
+    by : (b : Bool) → ltb k n ≡ b → (k ≡ n) ⊎ (k < n)
+    by true e = inr (ltb-true k n e)
+    by false e = let l = ltb-false k n e in inl (omega arith)
+
+-- two numbers are in order one way or the other
+pub below-or-not : (a b : ℕ) → (a < b) ⊎ (b ≤ a)
+below-or-not a b = by (ltb a b) refl
+  where
+    by : (t : Bool) → ltb a b ≡ t → (a < b) ⊎ (b ≤ a)
+    by true e = inl (ltb-true a b e)
+    by false e = inr (ltb-false a b e)
+
+-- the length of an array of structs, which the checker states of the array as it lies in memory
+pub length-mapped : {X Y : Type 0} (f : X → Y) (l : List X) (n : ℕ) → length (map f l) ≡ n → length l ≡ n
+length-mapped f l n e = sym (length-map l f) ∙ e

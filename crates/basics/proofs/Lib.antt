@@ -1,0 +1,8 @@
+-- Laws that belong to no one chapter of the rules.
+pub mod Cases
+pub mod Counts
+pub mod Everywhere
+pub mod Places
+pub mod Sums
+pub mod Tables
+pub mod TableSums

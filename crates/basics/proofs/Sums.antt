@@ -1,0 +1,49 @@
+-- Sums over lists.
+use Prim.Native.Nat.{ℕ, zero, suc, _+_, _-_, _*_, _≤_, _<_}
+use native.Mathlib.Nat.{suc-mul}
+use native.Mathlib.Omega.{arith}
+use native.Mathlib.Numerals.{add-one}
+use mathlib.Core.Path.{_≡_, refl}
+use mathlib.Core.List.{List, [], _∷_, _++_}
+use lib.ListN.{length, getD, set, drop, drop-of-length-le}
+use lib.Seq.{drop-cons}
+use Rattle.basics.specs.Lists.{total, sum}
+
+pub total-append : {A : Type 0} (f : A → ℕ) (xs ys : List A) → total f (xs ++ ys) ≡ total f xs + total f ys
+unfolding total
+total-append f [] ys = omega arith
+total-append f (x ∷ xs) ys = omega (arith, total-append f xs ys)
+
+-- an element is at most the sum
+pub one-most : (xs : List ℕ) (k : ℕ) → getD xs k 0 ≤ sum xs
+unfolding total
+one-most [] k = omega arith
+one-most (x ∷ xs) zero = omega arith
+one-most (x ∷ xs) (suc k) = let e = one-most xs k in omega arith
+
+-- a sum of elements that are at most b
+pub sum-most : (xs : List ℕ) (b : ℕ) → ((k : ℕ) → k < length xs → getD xs k 0 ≤ b) → sum xs ≤ length xs * b
+unfolding total
+sum-most [] b h = omega arith
+sum-most (x ∷ xs) b h =
+    let e = sum-most xs b (λ k l. h (suc k) (omega arith)) in
+    let f = h 0 (omega arith) in
+    let g = suc-mul (length xs) b in
+    omega arith
+
+-- what is left to add, with one element less
+pub rest-of : (xs : List ℕ) (i : ℕ) → i < length xs → sum (drop i xs) ≡ getD xs i 0 + sum (drop (i + 1) xs)
+unfolding total
+rest-of xs i h = rw (add-one, drop-cons xs i 0 h)
+
+pub none-left : (xs : List ℕ) (i : ℕ) → length xs ≤ i → sum (drop i xs) ≡ 0
+unfolding total
+none-left xs i h = rw (drop-of-length-le xs {i = i} h)
+
+-- a sum with one element changed
+pub total-set : {A : Type 0} (f : A → ℕ) (xs : List A) (i : ℕ) (v d : A) → i < length xs →
+    total f (set xs i v) + f (getD xs i d) ≡ total f xs + f v
+unfolding total
+total-set f [] i v d h = absurd (omega arith)
+total-set f (x ∷ xs) zero v d h = omega arith
+total-set f (x ∷ xs) (suc i) v d h = omega (arith, total-set f xs i v d (omega arith))

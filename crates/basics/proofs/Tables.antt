@@ -1,0 +1,41 @@
+-- Tables by an index.
+use Prim.Native.Nat.{ℕ, zero, suc, _+_, _-_, _≤_, _<_}
+use native.Mathlib.Nat.{zero-add}
+use native.Mathlib.Omega.{arith}
+use mathlib.Core.Path.{_≡_, refl, sym, ap, _∙_}
+use mathlib.Core.Logic.{⊎-elim}
+use mathlib.Core.List.{List, [], _∷_}
+use lib.ListN.{length, getD, set}
+use lib.Seq.{getD-set-same, getD-set-other, ext-getD}
+use Rattle.basics.specs.Lists.{tableFrom, table, total, sum}
+use Rattle.basics.proofs.Cases.{last-or-below}
+
+tableFrom-length : {A : Type 0} (k n : ℕ) (f : ℕ → A) → length (tableFrom k n f) ≡ n
+unfolding tableFrom
+tableFrom-length k zero f = refl
+tableFrom-length k (suc n) f = ap suc (tableFrom-length (suc k) n f)
+
+pub table-length : {A : Type 0} (n : ℕ) (f : ℕ → A) → length (table n f) ≡ n
+table-length n f = tableFrom-length 0 n f
+
+tableFrom-at : {A : Type 0} (k n : ℕ) (f : ℕ → A) (i : ℕ) (d : A) → i < n → getD (tableFrom k n f) i d ≡ f (k + i)
+unfolding tableFrom
+tableFrom-at k zero f i d h = absurd (omega arith)
+tableFrom-at k (suc n) f zero d h = ap f (omega arith)
+tableFrom-at k (suc n) f (suc i) d h = tableFrom-at (suc k) n f i d (omega arith) ∙ ap f (omega arith)
+
+pub table-at : {A : Type 0} (n : ℕ) (f : ℕ → A) (i : ℕ) (d : A) → i < n → getD (table n f) i d ≡ f i
+table-at n f i d h = tableFrom-at 0 n f i d h ∙ ap f (zero-add i)
+
+-- a list that has f of each index is the table of f
+pub is-table : {A : Type 0} (n : ℕ) (f : ℕ → A) (xs : List A) (d : A) → length xs ≡ n → ((i : ℕ) → i < n → getD xs i d ≡ f i) → xs ≡ table n f
+is-table n f xs d h e =
+    ext-getD d xs (table n f) (h ∙ sym (table-length n f)) (λ i l. e i (omega arith) ∙ sym (table-at n f i d (omega arith)))
+
+-- a list that is filled from the front, with one element more
+pub filled-more : {A : Type 0} (xs : List A) (d : A) (i : ℕ) (v : A) (f : ℕ → A) → i < length xs → ((k : ℕ) → k < i → getD xs k d ≡ f k) → v ≡ f i →
+    (k : ℕ) → k < i + 1 → getD (set xs i v) k d ≡ f k
+filled-more xs d i v f l h e k b =
+    ⊎-elim (λ (q : k ≡ i). rw q (getD-set-same xs i v d l ∙ e))
+    (λ (q : k < i). getD-set-other xs i k v d (λ z. omega arith) ∙ h k q)
+    (last-or-below k i (omega arith))

@@ -1,0 +1,43 @@
+-- Lists: sums, tables by an index, and what holds of every element or of every two.
+use Prim.Native.Nat.{ℕ, zero, suc, _+_, _-_}
+use mathlib.Core.Bool.{Bool, true, false}
+use mathlib.Core.List.{List, [], _∷_, _++_}
+use lib.ListN.{length, replicate}
+use Rattle.basics.specs.Choice.{pick}
+
+-- the sum of a number of each element
+unfoldable pub total : {A : Type 0} → (A → ℕ) → List A → ℕ
+total f [] = 0
+total f (x ∷ xs) = f x + total f xs
+
+-- the sum of a list of numbers
+abbrev pub sum : List ℕ → ℕ
+sum = total (λ n. n)
+
+-- f of k, k + 1 and so on, n of them
+unfoldable pub tableFrom : {A : Type 0} → ℕ → ℕ → (ℕ → A) → List A
+tableFrom k zero f = []
+tableFrom k (suc n) f = f k ∷ tableFrom (suc k) n f
+
+-- f of 0, 1 and so on, n of them
+abbrev pub table : {A : Type 0} → ℕ → (ℕ → A) → List A
+table = tableFrom 0
+
+-- how many of the numbers below n pass the test
+unfoldable pub countBelow : ℕ → (ℕ → Bool) → ℕ
+countBelow zero p = 0
+countBelow (suc n) p = pick (p n) (countBelow n p + 1) (countBelow n p)
+
+-- every element
+pub data Every {A : Type 0} (P : A → Type 0) : List A → Type 0 where
+  nobody : Every P []
+  also : {x : A} {xs : List A} → P x → Every P xs → Every P (x ∷ xs)
+
+-- every two elements, the one ahead and the one behind
+pub data Sorted {A : Type 0} (R : A → A → Type 0) : List A → Type 0 where
+  empty : Sorted R []
+  ahead : {x : A} {xs : List A} → Every (R x) xs → Sorted R xs → Sorted R (x ∷ xs)
+
+-- a list that fills the front of n places; each place behind it holds z
+abbrev pub padded : {A : Type 0} → ℕ → A → List A → List A
+padded n z xs = xs ++ replicate (n - length xs) z

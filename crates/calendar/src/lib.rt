@@ -1,0 +1,150 @@
+// The calendar: days, the book's closed days, clearing days, and ages counted in them. A calendar day and a count of
+// clearing days are two types, and only the functions of this crate lead from one to the other.
+ghost use mathlib.Core.Path.{_≡_};
+ghost use Prim.Native.Nat.{_≤_};
+ghost use lib.ListN.{length};
+ghost use Rattle.calendar.specs.Closed.{mostClosed, risesFrom, closedRefused, closedDays, listed, among};
+ghost use Rattle.calendar.specs.Days.{clearing, nextAfter, nthAfter, ageAt};
+
+// A calendar day by its number; day 0 is Saturday 1 January 2000.
+pub struct Day(pub u64);
+
+// A count of clearing days, or an age.
+pub struct ClearingDays(pub u64);
+
+// A clearing day that was looked for: the day, or none up to the last day of the calendar.
+pub enum NextDay {
+    At(Day),
+    Never,
+}
+
+// The book's closed days: the first count of these.
+pub struct ClosedDays {
+    pub days: [Day; 64],
+    pub count: usize,
+}
+
+const LAST_DAY: u64 = 65_535;
+
+// Whether the days of a list rise strictly and end by the last day.
+fn is_rising(days: &[u64]) -> bool
+    ensures { λ r. ⌜ r ≡ risesFrom 0 (now (days .entry)) ⌝ }
+{
+    let mut least: u64 = 0;
+    let mut i = 0;
+    while i < days.len() {
+        let day = days[i];
+        if day < least {
+            return false;
+        }
+        if LAST_DAY < day {
+            return false;
+        }
+        least = day + 1;
+        i += 1;
+    }
+    true
+}
+
+// Whether a list of closed days is refused.
+pub fn refuses_closed(days: &[u64]) -> bool
+    ensures { λ r. ⌜ r ≡ closedRefused (now (days .entry)) ⌝ }
+{
+    if 64 < days.len() {
+        return true;
+    }
+    if is_rising(days) { false } else { true }
+}
+
+impl ClosedDays {
+    // The closed days of a list.
+    pub fn listed(list: &[u64]) -> ClosedDays
+        requires { ⌜ length (now list) ≤ mostClosed ⌝ }
+        ensures { λ r. ⌜ r ≡ closedDays (now (list .entry)) ⌝ }
+    {
+        let mut days = [Day(0); 64];
+        let mut i = 0;
+        while i < list.len() {
+            days[i] = Day(list[i]);
+            i += 1;
+        }
+        ClosedDays {
+            days: days,
+            count: i,
+        }
+    }
+
+    // Whether a day is among the closed days.
+    fn has(self, day: Day) -> bool
+        ensures { λ r. ⌜ r ≡ among (listed self) day ⌝ }
+    {
+        let days = self.days;
+        let count = self.count;
+        let mut i = 0;
+        while i < 64 {
+            if count <= i {
+                return false;
+            }
+            let closed = days[i];
+            if closed.0 == day.0 {
+                return true;
+            }
+            i += 1;
+        }
+        false
+    }
+
+    // Whether a day is a clearing day.
+    pub fn is_clearing(self, day: Day) -> bool
+        ensures { λ r. ⌜ r ≡ clearing (listed self) day ⌝ }
+    {
+        if day.0 % 7 < 2 {
+            return false;
+        }
+        if self.has(day) { false } else { true }
+    }
+
+    // The next clearing day after a day.
+    pub fn next_after(self, day: Day) -> NextDay
+        ensures { λ r. ⌜ r ≡ nextAfter (listed self) day ⌝ }
+    {
+        let mut d = day.0;
+        while d < LAST_DAY {
+            d += 1;
+            if self.is_clearing(Day(d)) {
+                return NextDay::At(Day(d));
+            }
+        }
+        NextDay::Never
+    }
+
+    // The n-th clearing day after a day: for n above 0, the next one after the (n - 1)-th.
+    pub fn nth_after(self, day: Day, n: ClearingDays) -> NextDay
+        ensures { λ r. ⌜ r ≡ nthAfter (listed self) day n ⌝ }
+    {
+        let count = n.0;
+        if count == 0 {
+            return NextDay::At(day);
+        }
+        let NextDay::At(previous) = self.nth_after(day, ClearingDays(count - 1)) else {
+            return NextDay::Never;
+        };
+        self.next_after(previous)
+    }
+
+    // The age at today of what was due on a day: it walks only the days since then.
+    pub fn age_at(self, due: Day, today: Day) -> ClearingDays
+        ensures { λ r. ⌜ r ≡ ageAt (listed self) due today ⌝ }
+    {
+        let mut age: u64 = 0;
+        let mut d = due.0;
+        let end = today.0;
+        while d < end {
+            d += 1;
+            if self.is_clearing(Day(d)) {
+                age += 1;
+            }
+        }
+        ClearingDays(age)
+    }
+}

@@ -1,0 +1,3 @@
+-- The theorem on the settled examples is `settled` of Settled.
+pub mod Settled
+pub mod Small

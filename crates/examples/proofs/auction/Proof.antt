@@ -1,0 +1,95 @@
+-- `auction` meets its contract.
+use native.Mathlib.Omega.{arith}
+use mathlib.Core.Path.{_≡_, ap}
+use borrow.Author.Needs.{needs}
+use Rattle.offers.specs.declared.Offers.{Offers}
+use Rattle.examples.proofs.auction.Statement.{statement}
+use Rattle.examples.proofs.auction.Tie as tie
+
+same-count : {r s : Offers} → r ≡ s → r .count ≡ s .count
+same-count e = ap (λ (o : Offers). o .count) e
+
+none-requires : tie.Need-none-requires
+none-requires c κs = search needs
+
+offered-requires : tie.Need-offered-requires
+offered-requires c κs = search needs
+
+insert-requires : tie.Need-insert-requires
+insert-requires c κs = omega (arith, same-count (c .before .none .ensures))
+
+offered-requires-2 : tie.Need-offered-requires-2
+offered-requires-2 c κs = search needs
+
+insert-requires-2 : tie.Need-insert-requires-2
+insert-requires-2 c κs = omega (arith, same-count (c .before .insert .ensures), same-count (c .before .before .before .none .ensures))
+
+offered-requires-3 : tie.Need-offered-requires-3
+offered-requires-3 c κs = search needs
+
+insert-requires-3 : tie.Need-insert-requires-3
+insert-requires-3 c κs = omega (arith, same-count (c .before .insert2 .ensures), same-count (c .before .before .before .insert .ensures), same-count (c .before .before .before .before .before .none .ensures))
+
+buy-in-requires : tie.Need-buy-in-requires
+buy-in-requires c κs = omega (arith, same-count (c .insert3 .ensures), same-count (c .before .before .insert2 .ensures), same-count (c .before .before .before .before .insert .ensures), same-count (c .before .before .before .before .before .before .none .ensures))
+
+array-copy-out-first : tie.Need-array-copy-out-first
+array-copy-out-first c = search needs
+
+array-copy-out-second : tie.Need-array-copy-out-second
+array-copy-out-second c = search needs
+
+compared-requires : tie.Need-compared-requires
+compared-requires c κs = search needs
+
+compared-requires-2 : tie.Need-compared-requires-2
+compared-requires-2 c κs = search needs
+
+add-result : tie.Need-add-result
+add-result c = search needs
+
+compared-requires-3 : tie.Need-compared-requires-3
+compared-requires-3 c κs = search needs
+
+add-result-2 : tie.Need-add-result-2
+add-result-2 c = search needs
+
+compared-requires-4 : tie.Need-compared-requires-4
+compared-requires-4 c κs = search needs
+
+add-result-3 : tie.Need-add-result-3
+add-result-3 c = search needs
+
+compared-requires-5 : tie.Need-compared-requires-5
+compared-requires-5 c κs = search needs
+
+add-result-4 : tie.Need-add-result-4
+add-result-4 c = search needs
+
+returns : tie.Need-returns
+returns c = search needs
+
+pub auction-spec : {M : Type 1} → statement M
+auction-spec =
+    tie.close
+    (tie.spec
+    none-requires
+    offered-requires
+    insert-requires
+    offered-requires-2
+    insert-requires-2
+    offered-requires-3
+    insert-requires-3
+    buy-in-requires
+    array-copy-out-first
+    array-copy-out-second
+    compared-requires
+    compared-requires-2
+    add-result
+    compared-requires-3
+    add-result-2
+    compared-requires-4
+    add-result-3
+    compared-requires-5
+    add-result-4
+    returns)

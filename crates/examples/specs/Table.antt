@@ -1,0 +1,90 @@
+-- The settled examples of 01, each as a row: its number there, what the definitions give, and what 01 says.
+use Prim.Native.Nat.{ℕ, _+_}
+use mathlib.Core.Bool.{Bool, true, false}
+use mathlib.Core.List.{List, [], _∷_, _++_}
+use lib.ListN.{take, replicate}
+use Rattle.basics.specs.Choice.{pick}
+use Rattle.calendar.specs.declared.Day.{Day}
+use Rattle.calendar.specs.declared.NextDay.{NextDay}
+use Rattle.calendar.specs.declared.NextDay.the-variants.{At, Never}
+use Rattle.calendar.specs.Closed.{day}
+use Rattle.calendar.specs.Days.{clearingDays, nthAfter}
+use Rattle.amounts.specs.Amounts.{penalty, compensation, cash, cashOfEach, charge, amountsMatch, aboveCap}
+use Rattle.netting.specs.Shares.{shares}
+use Rattle.offers.specs.declared.Offer.{Offer}
+use Rattle.offers.specs.declared.Given.{Given}
+use Rattle.offers.specs.Rank.{ranked}
+use Rattle.offers.specs.BuyIn.{given}
+
+pub record Row : Type 0 where
+  pub item : ℕ
+  pub computed : List ℕ
+  pub settled : List ℕ
+
+-- 1 where a test holds, else 0
+abbrev pub asNumber : Bool → ℕ
+asNumber t = pick t 1 0
+
+-- 01, Refusals, 18, of an offer's price over the price at age = grace; 0 where it passes
+abbrev pub capAnswer : ℕ → ℕ → ℕ
+capAnswer price gracePrice = pick (aboveCap price gracePrice) 18 0
+
+-- the number of a clearing day that was looked for, where there is one
+abbrev pub dayNumber : NextDay → List ℕ
+dayNumber (At d) = d .0 ∷ []
+dayNumber Never = []
+
+-- the n-th clearing day after j, with these closed days
+abbrev pub nthDay : List Day → ℕ → ℕ → List ℕ
+nthDay closed j n = dayNumber (nthAfter closed (day j) (clearingDays n))
+
+-- what the first three of 32 members get of c cents
+abbrev pub firstShares : ℕ → ℕ → ℕ → ℕ → List ℕ
+firstShares c g0 g1 g2 = take 3 (shares c (g0 ∷ g1 ∷ g2 ∷ replicate 29 0))
+
+-- an offer for obligation 0
+abbrev pub offerOf : ℕ → ℕ → ℕ → Offer
+offerOf supplier quantity price = record { obligation = 0; supplier = supplier; quantity = quantity; price = price }
+
+-- supplier, quantity and charge of what was given, of an obligation with amount a and quantity q of which s is settled
+unfoldable pub boughtFrom : ℕ → ℕ → ℕ → List Given → List ℕ
+boughtFrom a q s [] = []
+boughtFrom a q s (g ∷ gs) =
+    g .offer .supplier ∷ g .quantity ∷ charge (g .quantity) (g .offer .price) (cash a q s (s + g .quantity))
+    ∷ boughtFrom a q (s + g .quantity) gs
+
+-- example 10's offers, the last one entered first
+abbrev pub entered : List Offer
+entered = offerOf 3 7 101000 ∷ offerOf 2 5 100500 ∷ offerOf 1 7 101000 ∷ []
+
+-- 01, Settled examples
+abbrev pub table : List Row
+table =
+    record { item = 1; computed = penalty 1000 100000 10 ∷ []; settled = 1000 ∷ [] }
+    ∷ record { item = 2; computed = penalty 1 50000 10 ∷ penalty 1 49999 10 ∷ []; settled = 1 ∷ 0 ∷ [] }
+    ∷ record { item = 3; computed = compensation 1 100005 ∷ compensation 1 100004 ∷ []; settled = 10001 ∷ 10000 ∷ [] }
+    ∷ record { item = 4; computed = capAnswer 107998 99999 ∷ capAnswer 107999 99999 ∷ []; settled = 0 ∷ 18 ∷ [] }
+    ∷ record {
+      item = 5;
+      computed = asNumber (amountsMatch 10000000 10000200) ∷ asNumber (amountsMatch 10000000 10000201) ∷ [];
+      settled = 1 ∷ 0 ∷ [];
+    }
+    ∷ record {
+      item = 6;
+      computed = asNumber (amountsMatch 10000001 10002501) ∷ asNumber (amountsMatch 10000001 10002502) ∷ [];
+      settled = 1 ∷ 0 ∷ [];
+    }
+    ∷ record { item = 7; computed = cashOfEach 1000 3 0 (1 ∷ 1 ∷ 1 ∷ []); settled = 333 ∷ 333 ∷ 334 ∷ [] }
+    ∷ record { item = 8; computed = firstShares 100 200 100 0; settled = 67 ∷ 33 ∷ 0 ∷ [] }
+    ∷ record { item = 8; computed = firstShares 100 100 100 100; settled = 34 ∷ 33 ∷ 33 ∷ [] }
+    ∷ record {
+      item = 9;
+      computed = nthDay [] 2 30 ++ nthDay [] 2 35 ++ nthDay (day 44 ∷ []) 2 30;
+      settled = 44 ∷ 51 ∷ 45 ∷ [];
+    }
+    ∷ record {
+      item = 10;
+      computed = boughtFrom 1000000 10 0 (given 0 10 (ranked entered));
+      settled = 2 ∷ 5 ∷ 2500 ∷ 1 ∷ 5 ∷ 5000 ∷ [];
+    }
+    ∷ []

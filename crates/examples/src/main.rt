@@ -1,0 +1,169 @@
+// Puts the settled examples through the code and prints each answer beside the settled one.
+use calendar::ClearingDays;
+use calendar::ClosedDays;
+use calendar::Day;
+use calendar::NextDay;
+use libc::STDOUT_FILENO;
+use offers::Offer;
+use offers::Offers;
+ghost use Prim.Native.Nat.{_≤_};
+
+// Prints one answer of an example and answers 1 where it is not the settled one, else 0.
+fn compared(item: u64, answer: u64, settled: u64) -> u64
+    ensures { λ r. ⌜ r ≤ 1 ⌝ }
+{
+    io::write_all(STDOUT_FILENO, b"example ");
+    io::print_decimal(STDOUT_FILENO, item);
+    io::write_all(STDOUT_FILENO, b": ");
+    io::print_decimal(STDOUT_FILENO, answer);
+    if answer == settled {
+        io::write_all(STDOUT_FILENO, b", as settled\n");
+        return 0;
+    }
+    io::write_all(STDOUT_FILENO, b", settled is ");
+    io::print_decimal(STDOUT_FILENO, settled);
+    io::write_all(STDOUT_FILENO, b"\n");
+    1
+}
+
+fn as_number(test: bool) -> u64 {
+    if test { 1 } else { 0 }
+}
+
+// Examples 1 to 3: penalties and compensation.
+fn rounded_amounts() -> u64
+    ensures { λ r. ⌜ r ≤ 5 ⌝ }
+{
+    compared(1, amounts::penalty_of(1_000, 100_000, 10), 1_000)
+        + compared(2, amounts::penalty_of(1, 50_000, 10), 1)
+        + compared(2, amounts::penalty_of(1, 49_999, 10), 0)
+        + compared(3, amounts::compensation_of(1, 100_005), 10_001)
+        + compared(3, amounts::compensation_of(1, 100_004), 10_000)
+}
+
+// Examples 4 to 6: the cap and the tolerance, 1 standing for yes.
+fn limits() -> u64
+    ensures { λ r. ⌜ r ≤ 6 ⌝ }
+{
+    compared(4, as_number(amounts::above_cap(107_998, 99_999)), 0)
+        + compared(4, as_number(amounts::above_cap(107_999, 99_999)), 1)
+        + compared(
+            5,
+            as_number(amounts::amounts_match(10_000_000, 10_000_200)),
+            1,
+        )
+        + compared(
+            5,
+            as_number(amounts::amounts_match(10_000_000, 10_000_201)),
+            0,
+        )
+        + compared(
+            6,
+            as_number(amounts::amounts_match(10_000_001, 10_002_501)),
+            1,
+        )
+        + compared(
+            6,
+            as_number(amounts::amounts_match(10_000_001, 10_002_502)),
+            0,
+        )
+}
+
+// Example 7: three deliveries of one unit.
+fn part_deliveries() -> u64
+    ensures { λ r. ⌜ r ≤ 3 ⌝ }
+{
+    compared(7, amounts::cash_for(1_000, 3, 0, 1), 333)
+        + compared(7, amounts::cash_for(1_000, 3, 1, 2), 333)
+        + compared(7, amounts::cash_for(1_000, 3, 2, 3), 334)
+}
+
+// Example 8: a hundred cents for claims of 200 and 100, and for three of 100.
+fn months() -> u64
+    ensures { λ r. ⌜ r ≤ 5 ⌝ }
+{
+    let mut two = [0i64; 32];
+    two[0] = 200;
+    two[1] = 100;
+    let mut three = [0i64; 32];
+    three[0] = 100;
+    three[1] = 100;
+    three[2] = 100;
+    let of_two = netting::shares_of(two, 100);
+    let of_three = netting::shares_of(three, 100);
+    compared(8, of_two[0], 67)
+        + compared(8, of_two[1], 33)
+        + compared(8, of_three[0], 34)
+        + compared(8, of_three[1], 33)
+        + compared(8, of_three[2], 33)
+}
+
+// The number of the n-th clearing day after day 2, or 0 where there is none.
+fn nth_after_2(closed: ClosedDays, n: u64) -> u64 {
+    match closed.nth_after(Day(2), ClearingDays(n)) {
+        NextDay::At(day) => day.0,
+        NextDay::Never => 0,
+    }
+}
+
+// Example 9: clearing days with no closed day, and with day 44 closed.
+fn clearing_days() -> u64
+    ensures { λ r. ⌜ r ≤ 3 ⌝ }
+{
+    let list = [44u64; 1];
+    let all_open = ClosedDays::listed(&list[..0]);
+    let one_closed = ClosedDays::listed(&list);
+    compared(9, nth_after_2(all_open, 30), 44)
+        + compared(9, nth_after_2(all_open, 35), 51)
+        + compared(9, nth_after_2(one_closed, 30), 45)
+}
+
+fn offered(supplier: u64, quantity: u64, price: u64) -> Offer {
+    Offer {
+        obligation: 0,
+        supplier: supplier,
+        quantity: quantity,
+        price: price,
+    }
+}
+
+// Example 10, the auction: who gives and how much.
+fn auction() -> u64
+    ensures { λ r. ⌜ r ≤ 5 ⌝ }
+{
+    let offers = Offers::none()
+        .insert(offered(1, 7, 101_000))
+        .insert(offered(2, 5, 100_500))
+        .insert(offered(3, 7, 101_000));
+    let bought = offers.buy_in(0, 10);
+    let given = bought.given;
+    let first = given[0];
+    let second = given[1];
+    compared(10, bought.count as u64, 2)
+        + compared(10, first.offer.supplier, 2)
+        + compared(10, first.quantity, 5)
+        + compared(10, second.offer.supplier, 1)
+        + compared(10, second.quantity, 5)
+}
+
+// Example 10, the charges of the two quantities bought.
+fn charges() -> u64
+    ensures { λ r. ⌜ r ≤ 2 ⌝ }
+{
+    let first = amounts::cash_for(1_000_000, 10, 0, 5);
+    let second = amounts::cash_for(1_000_000, 10, 5, 10);
+    compared(10, amounts::charge_for(5, 100_500, first), 2_500)
+        + compared(10, amounts::charge_for(5, 101_000, second), 5_000)
+}
+
+fn main() {
+    let differ = rounded_amounts()
+        + limits()
+        + part_deliveries()
+        + months()
+        + clearing_days()
+        + auction()
+        + charges();
+    io::print_decimal(STDOUT_FILENO, differ);
+    io::write_all(STDOUT_FILENO, b" answers differ from the settled ones\n");
+}

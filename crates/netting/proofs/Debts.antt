@@ -1,0 +1,76 @@
+-- Claims and debts: accounts whose balance is zero owe together what they claim together, so what is collected of the
+-- debts is covered by the claims.
+use Prim.Native.Nat.{ℕ, zero, suc, _+_, _*_, _^_, _≤_, _<_}
+use native.Mathlib.Nat.{zero-add}
+use native.Mathlib.Omega.{arith}
+use mathlib.Core.List.{List, [], _∷_, map}
+use mathlib.Core.Path.{_≡_, refl, sym, ap, _∙_}
+use lib.IntN.{ℤ, pos, negsuc, _+ℤ_, natAbs, +ℤ-assoc, +ℤ-comm, +ℤ-invl, +ℤ-idl}
+use lib.ListN.{length, getD, length-map}
+use lib.Seq.{ext-getD}
+use Rattle.basics.proofs.Sums.{sum-most}
+use Rattle.basics.specs.Lists.{total, sum}
+use Rattle.netting.specs.Accounts.{claim, owed, claims, balance, mostAccount, Bounded}
+use Rattle.netting.proofs.Signed.{claim-most}
+
+-- the accounts and what they owe are what they claim
+owed-back : (a : List ℤ) → balance a +ℤ pos (sum (map owed a)) ≡ pos (sum (claims a))
+unfolding balance total
+owed-back [] = refl
+owed-back (pos n ∷ a) =
+    ap (λ (x : ℕ). (pos n +ℤ balance a) +ℤ pos x) (zero-add (sum (map owed a)))
+    ∙ +ℤ-assoc (pos n) (balance a) (pos (sum (map owed a)))
+    ∙ ap (λ (z : ℤ). pos n +ℤ z) (owed-back a)
+owed-back (negsuc n ∷ a) =
+    ap (λ (z : ℤ). z +ℤ pos (suc n + sum (map owed a))) (+ℤ-comm (negsuc n) (balance a))
+    ∙ +ℤ-assoc (balance a) (negsuc n) (pos (suc n + sum (map owed a)))
+    ∙ ap (λ (z : ℤ). balance a +ℤ z)
+    (sym (+ℤ-assoc (negsuc n) (pos (suc n)) (pos (sum (map owed a))))
+    ∙ ap (λ (z : ℤ). z +ℤ pos (sum (map owed a))) (+ℤ-invl (pos (suc n)))
+    ∙ +ℤ-idl (pos (sum (map owed a))))
+    ∙ owed-back a
+    ∙ ap pos (sym (zero-add (sum (claims a))))
+
+-- where the balance is zero, what is owed is what is claimed
+pub owed-claimed : (a : List ℤ) → balance a ≡ pos 0 → sum (map owed a) ≡ sum (claims a)
+owed-claimed a h =
+    ap natAbs
+    (sym (+ℤ-idl (pos (sum (map owed a)))) ∙ ap (λ (z : ℤ). z +ℤ pos (sum (map owed a))) (sym h) ∙ owed-back a)
+
+within-owed : (a : List ℤ) (cs : List ℕ) → ((m : ℕ) → m < length cs → getD cs m 0 ≤ owed (getD a m (pos 0))) →
+    sum cs ≤ sum (map owed a)
+unfolding total
+within-owed a [] h = omega arith
+within-owed [] (c ∷ cs) h =
+    let e = h 0 (omega arith) in let f = within-owed [] cs (λ m l. h (suc m) (omega arith)) in omega arith
+within-owed (z ∷ a) (c ∷ cs) h =
+    let e = h 0 (omega arith) in let f = within-owed a cs (λ m l. h (suc m) (omega arith)) in omega arith
+
+-- amounts that are each at most what their member owes, on accounts whose balance is zero, are no more than is claimed
+pub collected-covered : (a : List ℤ) (cs : List ℕ) → balance a ≡ pos 0 →
+    ((m : ℕ) → m < length cs → getD cs m 0 ≤ owed (getD a m (pos 0))) → sum cs ≤ sum (claims a)
+collected-covered a cs z h = let e = owed-claimed a z in let f = within-owed a cs h in omega arith
+
+-- a member's claim is that of its account
+pub claim-at : (a : List ℤ) (m : ℕ) → getD (claims a) m 0 ≡ claim (getD a m (pos 0))
+claim-at [] m = refl
+claim-at (z ∷ a) zero = refl
+claim-at (z ∷ a) (suc m) = claim-at a m
+
+-- there are as many claims as accounts
+pub claims-length : (a : List ℤ) → length (claims a) ≡ length a
+claims-length a = length-map a claim
+
+-- all claims of 32 bounded accounts are together at most 2 ^ 48
+pub claims-small : (a : List ℤ) → length a ≡ 32 → Bounded a → sum (claims a) ≤ 2 ^ 48
+claims-small a members small =
+    let s = sum-most (claims a) mostAccount
+    (λ k l. let e = claim-at a k in let f = claim-most (getD a k (pos 0)) in let g = small k in omega arith) in
+    let e = ap (λ (n : ℕ). n * mostAccount) (claims-length a ∙ members) in
+    omega arith
+
+-- a list that has the claim of each account is the list of the claims
+pub claims-listed : (a : List ℤ) (xs : List ℕ) → length a ≡ 32 → length xs ≡ 32 →
+    ((m : ℕ) → m < 32 → getD xs m 0 ≡ claim (getD a m (pos 0))) → xs ≡ claims a
+claims-listed a xs la lx h =
+    ext-getD 0 xs (claims a) (lx ∙ sym la ∙ sym (claims-length a)) (λ m l. h m (omega arith) ∙ sym (claim-at a m))

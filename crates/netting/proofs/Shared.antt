@@ -1,0 +1,240 @@
+-- The shares of a month: they add up to what was collected; each is the claim's floor or one cent more, and at most the
+-- claim; and a cent more goes by the order of the remainders.
+use Prim.Native.Nat.{ℕ, zero, suc, _+_, _*_, _≤_, _<_}
+use native.Mathlib.Nat.{add-mul, mul-comm, mul-zero, mul-le-mul-right, le-of-mul-le-mul-right, lt-of-mul-lt-mul-right}
+use native.Mathlib.Nat.{mod-lt, div-add-mod', zero-div, zero-mod}
+use native.Mathlib.Omega.{arith}
+use mathlib.Core.Bool.{Bool, true}
+use mathlib.Core.List.{List}
+use mathlib.Core.Logic.{_⊎_, inl, inr, ⊎-elim}
+use mathlib.Core.Path.{_≡_, refl, ap, _∙_}
+use lib.Dec.{ltb}
+use lib.ListN.{length, getD, replicate}
+use borrow.Author.Tests.{ltb-true, ltb-false, lt-ltb}
+use Rattle.basics.specs.Lists.{total, sum, table, tableFrom, countBelow}
+use Rattle.basics.proofs.Cases.{pick-case, below-or-not}
+use Rattle.basics.proofs.Sums.{one-most}
+use Rattle.basics.proofs.Tables.{table-length, table-at}
+use Rattle.basics.proofs.TableSums.{sum-both}
+use Rattle.netting.specs.Shares.{floorShare, remainder, centsLeft, comesBefore, rank, extraCent, share, shares}
+use Rattle.basics.proofs.Counts.{count-within, count-most, sum-same, sum-ones, sum-counted, sum-parts}
+use Rattle.basics.proofs.Counts.{sum-listed}
+use Rattle.netting.proofs.Ranks.{comes-first, ranks-below, rank-first}
+
+-- there is a share for each of the 32 members
+pub shares-length : (c : ℕ) (gs : List ℕ) → length (shares c gs) ≡ 32
+unfolding shares
+shares-length c gs = table-length 32 (share c gs)
+
+-- what a member gets stands at its place
+pub share-at : (c : ℕ) (gs : List ℕ) (m : ℕ) → m < 32 → getD (shares c gs) m 0 ≡ share c gs m
+unfolding shares
+share-at c gs m l = table-at 32 (share c gs) m 0 l
+
+share-none : (c : ℕ) (gs : List ℕ) (m : ℕ) → getD gs m 0 ≡ 0 → share c gs m ≡ 0
+unfolding share
+share-none c gs m h = rw h
+
+share-claimed : (c : ℕ) (gs : List ℕ) (m : ℕ) → 0 < getD gs m 0 → share c gs m ≡ floorShare c gs m + extraCent c gs m
+unfolding share
+share-claimed c gs m h = rw (lt-ltb 0 (getD gs m 0) h)
+
+-- who has no claim gets nothing
+pub shares-no-claim : (c : ℕ) (gs : List ℕ) (m : ℕ) → m < 32 → getD gs m 0 ≡ 0 → getD (shares c gs) m 0 ≡ 0
+shares-no-claim c gs m l h = share-at c gs m l ∙ share-none c gs m h
+
+unclaimed : (gs : List ℕ) → sum gs ≤ 0 → (m : ℕ) → getD gs m 0 ≡ 0
+unclaimed gs h m = let e = one-most gs m in omega arith
+
+zeros : (n : ℕ) (f : ℕ → ℕ) (k : ℕ) → ((i : ℕ) → f i ≡ 0) → tableFrom k n f ≡ replicate n 0
+unfolding tableFrom
+zeros zero f k h = refl
+zeros (suc n) f k h = rw (h k, zeros n f (suc k) h)
+
+-- where nothing is claimed all get 0
+pub shares-none : (c : ℕ) (gs : List ℕ) → sum gs ≡ 0 → shares c gs ≡ replicate 32 0
+unfolding shares
+shares-none c gs h = zeros 32 (share c gs) 0 (λ m. share-none c gs m (unclaimed gs (omega arith) m))
+
+-- a claim of nothing leaves nothing to round
+floor-none : (c : ℕ) (gs : List ℕ) (m : ℕ) → getD gs m 0 ≡ 0 → (floorShare c gs m ≡ 0) × (remainder c gs m ≡ 0)
+unfolding floorShare remainder
+floor-none c gs m h = rw (h, mul-zero c) (zero-div (sum gs), zero-mod (sum gs))
+
+-- none of the cents left, or one: by whether fewer members come before than there are cents
+abbrev OneOrNone : ℕ → ℕ → ℕ → Type 0
+OneOrNone place left x = ((x ≡ 0) × (left ≤ place)) ⊎ ((x ≡ 1) × (place < left))
+
+cent : (c : ℕ) (gs : List ℕ) (m : ℕ) → OneOrNone (rank (remainder c gs) m) (centsLeft c gs) (extraCent c gs m)
+unfolding extraCent
+cent c gs m =
+    pick-case (OneOrNone (rank (remainder c gs) m) (centsLeft c gs))
+    (ltb (rank (remainder c gs) m) (centsLeft c gs)) 1 0
+    (λ e. inr (refl, ltb-true (rank (remainder c gs) m) (centsLeft c gs) e))
+    (λ e. inl (refl, ltb-false (rank (remainder c gs) m) (centsLeft c gs) e))
+
+-- c cents on the claims gs of 32 members
+module _ (c : ℕ) (gs : List ℕ) (members : length gs ≡ 32) where
+  abbrev whole : ℕ
+  whole = sum gs
+
+  abbrev floors : ℕ
+  floors = sum (table 32 (floorShare c gs))
+
+  -- the floors and the remainders are together all of the products
+  parts : floors * whole + sum (table 32 (remainder c gs)) ≡ c * whole
+  unfolding floorShare remainder
+  parts =
+      sum-parts 32 c whole (λ (k : ℕ). getD gs k 0) ∙ ap (λ (x : ℕ). c * x) (sum-listed gs 32 members)
+
+  no-floors : whole ≤ 0 → floors ≡ 0
+  unfolding total
+  no-floors h = ap sum (zeros 32 (floorShare c gs) 0 (λ m. floor-none c gs m (unclaimed gs h m) .0))
+
+  -- the floors take no more than c
+  pub floors-most : floors ≤ c
+  floors-most =
+      ⊎-elim
+      (λ (some : 0 < whole). le-of-mul-le-mul-right {k = whole} (omega (arith, parts)) some)
+      (λ (none : whole ≤ 0). omega (arith, no-floors none))
+      (below-or-not 0 whole)
+
+  -- the floors and the cents left are all of c
+  all-of-it : floors + centsLeft c gs ≡ c
+  unfolding centsLeft
+  all-of-it = omega (arith, floors-most)
+
+  -- the remainders add up to the whole, as many times as there are cents left
+  remainders-are : sum (table 32 (remainder c gs)) ≡ centsLeft c gs * whole
+  remainders-are =
+      let p = parts in
+      let a = add-mul floors (centsLeft c gs) whole in
+      let e = ap (λ (x : ℕ). x * whole) all-of-it in
+      omega arith
+
+  abbrev rounded : ℕ → Bool
+  rounded k = ltb 0 (remainder c gs k)
+
+  -- at least as many members have a remainder as there are cents left
+  enough : 0 < whole → centsLeft c gs ≤ countBelow 32 rounded
+  unfolding remainder
+  enough some =
+      let e = remainders-are in
+      let f = sum-counted 32 (remainder c gs) whole (λ k. let l = mod-lt (c * getD gs k 0) some in omega arith) in
+      le-of-mul-le-mul-right {k = whole} (omega arith) some
+
+  -- a member with no remainder comes after all that have one
+  last : (m : ℕ) → remainder c gs m ≤ 0 → countBelow 32 rounded ≤ rank (remainder c gs) m
+  unfolding rank
+  last m h =
+      count-most 32 rounded (λ (k : ℕ). comesBefore (remainder c gs) k m)
+      (λ k l e. first k (ltb-true 0 (remainder c gs k) e))
+    where
+      first : (k : ℕ) → 0 < remainder c gs k → comesBefore (remainder c gs) k m ≡ true
+      first k l = comes-first (remainder c gs) k m (inl (omega arith))
+
+  -- where no more is collected than is claimed
+  module _ (covered : c ≤ sum gs) where
+    left-of-none : whole ≤ 0 → centsLeft c gs ≡ 0
+    left-of-none h = omega (arith, all-of-it)
+
+    few : centsLeft c gs ≤ 32
+    few =
+        ⊎-elim
+        (λ (some : 0 < whole). omega (arith, enough some, count-within 32 rounded))
+        (λ (none : whole ≤ 0). omega (arith, left-of-none none))
+        (below-or-not 0 whole)
+
+    -- who gets a cent more has a remainder
+    winner : (m : ℕ) → rank (remainder c gs) m < centsLeft c gs → 0 < remainder c gs m
+    winner m h = ⊎-elim claimed (λ (none : whole ≤ 0). absurd (omega (arith, left-of-none none))) (below-or-not 0 whole)
+      where
+        claimed : 0 < whole → 0 < remainder c gs m
+        claimed some =
+            ⊎-elim
+            (λ (l : 0 < remainder c gs m). l)
+            (λ (l : remainder c gs m ≤ 0). absurd (omega (arith, last m l, enough some)))
+            (below-or-not 0 (remainder c gs m))
+
+    no-extra : (m : ℕ) → getD gs m 0 ≡ 0 → extraCent c gs m ≡ 0
+    no-extra m h =
+        ⊎-elim (λ w. w .0) (λ w. absurd (omega (arith, winner m (w .1), floor-none c gs m h .1))) (cent c gs m)
+
+    -- each member gets its floor and, by its rank, a cent: what the test of the claim leaves out is 0 anyway
+    share-is : (m : ℕ) → share c gs m ≡ floorShare c gs m + extraCent c gs m
+    share-is m =
+        ⊎-elim
+        (λ (g : 0 < getD gs m 0). share-claimed c gs m g)
+        (λ (g : getD gs m 0 ≤ 0). none (omega arith))
+        (below-or-not 0 (getD gs m 0))
+      where
+        none : getD gs m 0 ≡ 0 → share c gs m ≡ floorShare c gs m + extraCent c gs m
+        none z = omega (arith, share-none c gs m z, floor-none c gs m z .0, no-extra m z)
+
+    extras : sum (table 32 (extraCent c gs)) ≡ centsLeft c gs
+    unfolding extraCent
+    extras =
+        sum-ones 32 (λ (m : ℕ). ltb (rank (remainder c gs) m) (centsLeft c gs))
+        ∙ ranks-below (remainder c gs) (centsLeft c gs) few
+
+    -- the shares add up to what is collected
+    pub shares-total : sum (shares c gs) ≡ c
+    unfolding shares
+    shares-total =
+        sum-same 32 (share c gs) (λ (m : ℕ). floorShare c gs m + extraCent c gs m) (λ m l. share-is m)
+        ∙ sum-both 0 32 (floorShare c gs) (extraCent c gs)
+        ∙ ap (λ (x : ℕ). floors + x) extras
+        ∙ all-of-it
+
+    -- a member gets its floor or one cent more
+    pub shares-floor : (m : ℕ) → m < 32 →
+        (getD (shares c gs) m 0 ≡ floorShare c gs m) ⊎ (getD (shares c gs) m 0 ≡ floorShare c gs m + 1)
+    shares-floor m l =
+        let e = share-at c gs m l ∙ share-is m in
+        ⊎-elim (λ w. inl (omega arith)) (λ w. inr (omega arith)) (cent c gs m)
+
+    product-most : (m : ℕ) → c * getD gs m 0 ≤ getD gs m 0 * whole
+    product-most m =
+        let p = mul-le-mul-right {m = c} {n = whole} (getD gs m 0) covered in
+        omega (arith, mul-comm whole (getD gs m 0))
+
+    -- a floor is at most the claim
+    floor-within : (m : ℕ) → 0 < whole → floorShare c gs m ≤ getD gs m 0
+    unfolding floorShare
+    floor-within m some =
+        le-of-mul-le-mul-right {k = whole} (omega (arith, div-add-mod' (c * getD gs m 0) whole, product-most m)) some
+
+    -- and less than the claim where there is a remainder
+    floor-less : (m : ℕ) → 0 < remainder c gs m → floorShare c gs m < getD gs m 0
+    unfolding floorShare remainder
+    floor-less m some =
+        lt-of-mul-lt-mul-right whole (omega (arith, div-add-mod' (c * getD gs m 0) whole, product-most m))
+
+    claimed-most : (m : ℕ) → 0 < getD gs m 0 → share c gs m ≤ getD gs m 0
+    claimed-most m g =
+        let e = share-is m in
+        let s : 0 < whole = omega (arith, one-most gs m) in
+        ⊎-elim (λ w. omega (arith, floor-within m s)) (λ w. omega (arith, floor-less m (winner m (w .1)))) (cent c gs m)
+
+    -- and at most its claim
+    pub shares-most : (m : ℕ) → m < 32 → getD (shares c gs) m 0 ≤ getD gs m 0
+    shares-most m l =
+        let e = share-at c gs m l in
+        ⊎-elim
+        (λ (g : 0 < getD gs m 0). omega (arith, claimed-most m g))
+        (λ (g : getD gs m 0 ≤ 0). omega (arith, share-none c gs m (omega arith)))
+        (below-or-not 0 (getD gs m 0))
+
+    won : (m : ℕ) → extraCent c gs m ≡ 1 → rank (remainder c gs) m < centsLeft c gs
+    won m e = ⊎-elim (λ w. absurd (omega arith)) (λ w. w .1) (cent c gs m)
+
+    missed : (m : ℕ) → extraCent c gs m ≡ 0 → centsLeft c gs ≤ rank (remainder c gs) m
+    missed m e = ⊎-elim (λ w. w .1) (λ w. absurd (omega arith)) (cent c gs m)
+
+    -- a cent more goes to the larger remainder, of two alike to the lower member: who got one comes before who did not
+    pub shares-ranked : (m k : ℕ) → m < 32 → k < 32 → getD (shares c gs) m 0 ≡ floorShare c gs m + 1 →
+        getD (shares c gs) k 0 ≡ floorShare c gs k → comesBefore (remainder c gs) m k ≡ true
+    shares-ranked m k lm lk em ek =
+        let x = share-at c gs m lm ∙ share-is m in
+        let y = share-at c gs k lk ∙ share-is k in
+        rank-first (remainder c gs) m k lk (omega (arith, won m (omega arith), missed k (omega arith)))

@@ -1,0 +1,194 @@
+// The members' accounts: a penalty that passes between two of them, what each claims and owes, and the month's
+// shares of what was collected.
+use amounts::Divided;
+ghost use mathlib.Core.Path.{_≡_};
+ghost use Prim.Native.Nat.{_*_, _≤_, _<_, _^_};
+ghost use lib.ListN.{getD};
+ghost use lib.IntN.{natAbs};
+ghost use Rattle.basics.specs.Lists.{sum};
+ghost use Rattle.amounts.specs.Quotients.{divided};
+ghost use Rattle.netting.specs.Accounts.{claim, owed, claims, transferred};
+ghost use Rattle.netting.specs.Accounts.{mostAccount, Bounded, Transferable, Shareable};
+ghost use Rattle.netting.specs.Shares.{comesBefore, rank, shares};
+ghost use Rattle.netting.specs.Portions.{Dividable, byMember, portions, centOf, shareOf};
+
+// What is worked out before any share: of each member its share rounded down and the remainder, and the cents left.
+struct Portions {
+    floors: [u64; 32],
+    remainders: [u64; 32],
+    left: u64,
+}
+
+// What an account claims.
+pub fn claim_of(account: i64) -> u64
+    requires { ⌜ natAbs account ≤ mostAccount ⌝ }
+    ensures { λ r. ⌜ r ≡ claim account ⌝ }
+{
+    if 0 < account { account as u64 } else { 0 }
+}
+
+// What an account owes.
+pub fn owed_by(account: i64) -> u64
+    requires { ⌜ natAbs account ≤ mostAccount ⌝ }
+    ensures { λ r. ⌜ r ≡ owed account ⌝ }
+{
+    if account < 0 {
+        let size = 0 - account;
+        size as u64
+    } else {
+        0
+    }
+}
+
+// Cents pass from the account of one member to that of another. The credit is read after the debit is stored, so that
+// a transfer from a member to itself would change nothing.
+pub fn transfer(accounts: [i64; 32], debtor: usize, creditor: usize, cents: u64) -> [i64; 32]
+    requires { ⌜ Transferable debtor creditor cents accounts ⌝ }
+    ensures { λ r. ⌜ r ≡ transferred debtor creditor cents accounts ⌝ }
+{
+    let mut next = accounts;
+    let owing = next[debtor];
+    next[debtor] = owing - (cents as i64);
+    let due = next[creditor];
+    next[creditor] = due + (cents as i64);
+    next
+}
+
+// The claims of all members.
+fn claims_of(accounts: [i64; 32]) -> [u64; 32]
+    requires { ⌜ Bounded accounts ⌝ }
+    ensures { λ r. ⌜ r ≡ claims accounts ⌝ }
+{
+    let mut claims = [0u64; 32];
+    let mut m = 0;
+    while m < 32 {
+        let account = accounts[m];
+        claims[m] = claim_of(account);
+        m += 1;
+    }
+    claims
+}
+
+// What the amounts of all members add up to.
+pub fn sum_of(amounts: [u64; 32]) -> u64
+    requires { ⌜ sum amounts < 2 ^ 64 ⌝ }
+    ensures { λ r. ⌜ r ≡ sum amounts ⌝ }
+{
+    let mut so_far: u64 = 0;
+    let mut m = 0;
+    while m < 32 {
+        so_far += amounts[m];
+        m += 1;
+    }
+    so_far
+}
+
+// The quotient and the remainder of one claim's part. No claim has none, also where nobody claims and the whole is 0.
+fn portion_of(collected: u64, claim: u64, whole: u64) -> Divided
+    requires { ⌜ (collected ≤ whole) × (claim ≤ whole) × (whole ≤ 2 ^ 48) ⌝ }
+    ensures { λ r. ⌜ r ≡ divided (collected * claim) whole ⌝ }
+{
+    if claim == 0 {
+        return Divided {
+            quotient: 0,
+            remainder: 0,
+        };
+    }
+    amounts::product_divided(collected, claim, whole)
+}
+
+// The portions of all claims, and the cents that the rounding leaves: the floors never take more than was collected.
+fn portions_of(collected: u64, claims: [u64; 32]) -> Portions
+    requires { ⌜ Dividable collected claims ⌝ }
+    ensures { λ r. ⌜ r ≡ portions collected claims ⌝ }
+{
+    let whole = sum_of(claims);
+    let mut floors = [0u64; 32];
+    let mut remainders = [0u64; 32];
+    let mut m = 0;
+    while m < 32 {
+        let portion = portion_of(collected, claims[m], whole);
+        floors[m] = portion.quotient;
+        remainders[m] = portion.remainder;
+        m += 1;
+    }
+    let left = collected - sum_of(floors);
+    Portions {
+        floors: floors,
+        remainders: remainders,
+        left: left,
+    }
+}
+
+// Whether member k comes before member m for a cent: by the larger remainder, and of two alike by the lower number.
+fn comes_before(remainders: [u64; 32], k: usize, m: usize) -> bool
+    requires { ⌜ (k < 32) × (m < 32) ⌝ }
+    ensures { λ r. ⌜ r ≡ comesBefore (byMember remainders) k m ⌝ }
+{
+    let first = remainders[k];
+    let second = remainders[m];
+    if second < first {
+        return true;
+    }
+    if first < second {
+        return false;
+    }
+    k < m
+}
+
+// How many members come before member m for a cent.
+fn rank_of(remainders: [u64; 32], m: usize) -> u64
+    requires { ⌜ m < 32 ⌝ }
+    ensures { λ r. ⌜ r ≡ rank (byMember remainders) m ⌝ }
+{
+    let mut ahead: u64 = 0;
+    let mut k = 0;
+    while k < 32 {
+        if comes_before(remainders, k, m) {
+            ahead += 1;
+        }
+        k += 1;
+    }
+    ahead
+}
+
+// One of the cents left, or none. Where no cent is left no rank is counted.
+fn cent_of(portions: Portions, m: usize) -> u64
+    requires { ⌜ m < 32 ⌝ }
+    ensures { λ r. ⌜ r ≡ centOf portions m ⌝ }
+{
+    let left = portions.left;
+    if left == 0 {
+        return 0;
+    }
+    let remainders = portions.remainders;
+    if rank_of(remainders, m) < left { 1 } else { 0 }
+}
+
+// What one member gets: nothing without a claim, else its floor and perhaps a cent.
+fn share_of(claims: [u64; 32], portions: Portions, m: usize) -> u64
+    requires { ⌜ (m < 32) × (getD (portions .floors) m 0 ≤ 2 ^ 48) ⌝ }
+    ensures { λ r. ⌜ r ≡ shareOf claims portions m ⌝ }
+{
+    if claims[m] == 0 {
+        return 0;
+    }
+    let floors = portions.floors;
+    floors[m] + cent_of(portions, m)
+}
+
+// What each member gets of the sum collected in a month.
+pub fn shares_of(accounts: [i64; 32], collected: u64) -> [u64; 32]
+    requires { ⌜ Shareable accounts collected ⌝ }
+    ensures { λ r. ⌜ r ≡ shares collected (claims accounts) ⌝ }
+{
+    let claims = claims_of(accounts);
+    let portions = portions_of(collected, claims);
+    let mut payouts = [0u64; 32];
+    let mut m = 0;
+    while m < 32 {
+        payouts[m] = share_of(claims, portions, m);
+        m += 1;
+    }
+    payouts
+}

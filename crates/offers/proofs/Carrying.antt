@@ -1,0 +1,92 @@
+-- The loop of insertion: an offer is carried along the rows to its place, and from there on each row moves by one.
+use Prim.Native.Nat.{ℕ, suc, _+_, _≤_, _<_}
+use native.Mathlib.Omega.{arith}
+use native.Mathlib.Numerals.{add-one}
+use native.Mathlib.Nat.{le-antisymm, add-zero}
+use mathlib.Core.Path.{_≡_, refl, sym, ap, _∙_}
+use mathlib.Core.Bool.{Bool, true, false, _||_}
+use mathlib.Core.List.{List, [], _∷_, _++_, append-assoc}
+use lib.ListN.{length, getD, set, take, drop, length-set}
+use lib.Seq.{slice, slice-cons, slice-empty, take-suc-set, drop-set-lt, drop-drop, getD-drop, set-split}
+use Rattle.basics.specs.Choice.{pick}
+use Rattle.offers.specs.declared.Offer.{Offer}
+use Rattle.offers.specs.Rank.{overtakes, insertedBy, inserted}
+use Rattle.offers.specs.Held.{noOffer}
+
+-- what is still to come behind the rows passed: x ahead of the rest once a row has moved, else x at its place in it
+unfoldable pub settled : Bool → Offer → List Offer → List Offer
+settled moved x ys = pick moved (x ∷ ys) (inserted x ys)
+
+-- after k of n rows: the rows passed, with what is still to come, are the list with o at its place
+pub record Carried (from : List Offer) (n : ℕ) (o : Offer) (rows : List Offer) (x : Offer) (m : Bool) (k : ℕ) : Type 0
+  where
+    pub within : k ≤ n
+    pub size : length rows ≡ 64
+    pub rest : drop k rows ≡ drop k from
+    pub made : take k rows ++ settled m x (slice k n from) ≡ inserted o (take n from)
+
+-- no row is passed
+pub carried-begins : (from : List Offer) (n : ℕ) (o : Offer) → length from ≡ 64 → Carried from n o from o false 0
+unfolding settled
+carried-begins from n o s = record { within = omega arith; size = s; rest = refl; made = refl }
+
+settled-step : (m : Bool) (x y : Offer) (ys : List Offer)
+    → pick (m || overtakes x y) x y ∷ settled (m || overtakes x y) (pick (m || overtakes x y) y x) ys
+    ≡ settled m x (y ∷ ys)
+unfolding settled insertedBy
+settled-step true x y ys = refl
+settled-step false x y ys = by (overtakes x y)
+  where
+    by : (t : Bool) → pick t x y ∷ settled t (pick t y x) ys ≡ pick t (x ∷ y ∷ ys) (y ∷ inserted x ys)
+    by true = refl
+    by false = refl
+
+settled-none : (m : Bool) (x : Offer) → settled m x [] ≡ x ∷ []
+unfolding settled insertedBy
+settled-none true x = refl
+settled-none false x = refl
+
+module _ (from : List Offer) (n : ℕ) (o : Offer) (room : n < 64) (s : length from ≡ 64) where
+  -- one row is passed: it takes v, and x' is carried on
+  pub carried-step : (rows : List Offer) (x : Offer) (m t : Bool) (k : ℕ) (y v x' : Offer)
+      → Carried from n o rows x m k → k < n
+      → y ≡ getD rows k noOffer → t ≡ (m || overtakes x y) → v ≡ pick t x y → x' ≡ pick t y x
+      → Carried from n o (set rows k v) x' t (k + 1)
+  carried-step rows x m t k y v x' c h ey et ev ex =
+      let l : k < length rows = omega (arith, c .size) in
+      let lf : n ≤ length from = omega arith in
+      let e : getD rows k noOffer ≡ getD from k noOffer =
+      rw add-zero at
+      (sym (getD-drop k rows 0 noOffer)
+      ∙ ap (λ (a : List Offer). getD a 0 noOffer) (c .rest)
+      ∙ getD-drop k from 0 noOffer) in
+      let step : v ∷ settled t x' (slice (suc k) n from) ≡ settled m x (getD from k noOffer ∷ slice (suc k) n from) =
+      rw (ev, ex, et, ey, e) (settled-step m x (getD from k noOffer) (slice (suc k) n from)) in
+      record {
+        within = omega arith;
+        size = length-set rows k v ∙ c .size;
+        rest =
+            drop-set-lt (k + 1) rows k v (omega arith)
+            ∙ sym (drop-drop 1 k rows)
+            ∙ ap (drop 1) (c .rest)
+            ∙ drop-drop 1 k from;
+        made =
+            rw (add-one, take-suc-set rows k v l, append-assoc, step, ← slice-cons k n from noOffer h lf) (c .made);
+      }
+
+  -- all rows are passed, and the place behind them takes x
+  pub carried-ends : (rows : List Offer) (x : Offer) (m : Bool) (k : ℕ) → Carried from n o rows x m k → n ≤ k
+      → set rows n x ≡ inserted o (take n from) ++ drop (n + 1) from
+  carried-ends rows x m k c h =
+      let e : k ≡ n = le-antisymm (c .within) h in
+      let c' : Carried from n o rows x m n = rw e at c in
+      let last : take n rows ++ x ∷ [] ≡ inserted o (take n from) =
+      ap (λ (l : List Offer). take n rows ++ l)
+      (sym (settled-none m x) ∙ ap (settled m x) (sym (slice-empty n from)))
+      ∙ c' .made in
+      let rest : drop (n + 1) rows ≡ drop (n + 1) from =
+      sym (drop-drop 1 n rows) ∙ ap (drop 1) (c' .rest) ∙ drop-drop 1 n from in
+      set-split rows n x (omega (arith, c' .size))
+      ∙ sym (append-assoc (take n rows) (x ∷ []) (drop (suc n) rows))
+      ∙ ap (λ (l : List Offer). l ++ drop (suc n) rows) last
+      ∙ ap (λ (l : List Offer). inserted o (take n from) ++ l) (ap (λ (j : ℕ). drop j rows) (sym (add-one n)) ∙ rest)

@@ -1,0 +1,51 @@
+-- The rows that hold the day's offers.
+use Prim.Native.Nat.{suc, _+_, _≤_, _<_}
+use native.Mathlib.Omega.{arith}
+use native.Mathlib.Numerals.{add-one}
+use mathlib.Core.Path.{_≡_, refl, sym, ap, _∙_}
+use mathlib.Core.List.{List, [], _∷_}
+use lib.ListN.{length, drop, length-append, length-drop}
+use lib.Seq.{take-at, length-take-le}
+use Rattle.basics.specs.Lists.{Every}
+use Rattle.offers.specs.declared.Offer.{Offer}
+use Rattle.offers.specs.declared.Offers.{Offers}
+use Rattle.offers.specs.Rank.{overtakes, inserted, ranked, rankedBy}
+use Rattle.offers.specs.Held.{noOffers, listed, withOffer}
+use Rattle.offers.proofs.Insertion.{length-inserted, every-inserted}
+
+-- as many offers are listed as are counted
+pub listed-length : (s : Offers) → s .count ≤ length (s .rows) → length (listed s) ≡ s .count
+listed-length s h = length-take-le (s .count) (s .rows) h
+
+-- a day begins with no offers
+pub listed-none : listed noOffers ≡ ranked []
+unfolding rankedBy
+listed-none = refl
+
+module _ (s : Offers) (o : Offer) (room : s .count < 64) (size : length (s .rows) ≡ 64) where
+  inserted-length : length (inserted o (listed s)) ≡ s .count + 1
+  inserted-length =
+      length-inserted overtakes o (listed s) ∙ ap suc (listed-length s (omega arith)) ∙ sym (add-one (s .count))
+
+  -- one more offer stands in the rows as it stands in the list
+  pub listed-with : listed (withOffer s o) ≡ inserted o (listed s)
+  listed-with = take-at (inserted o (listed s)) (drop (s .count + 1) (s .rows)) (s .count + 1) inserted-length
+
+  -- the count grows by one
+  pub count-with : withOffer s o .count ≡ s .count + 1
+  count-with = refl
+
+  -- the rows stay 64
+  pub size-with : length (withOffer s o .rows) ≡ 64
+  size-with =
+      length-append (inserted o (listed s)) (drop (s .count + 1) (s .rows))
+      ∙ omega (arith, inserted-length, length-drop (s .count + 1) (s .rows))
+
+  -- rows that list the entered offers in their order do so with one more
+  pub ranked-with : (entered : List Offer) → listed s ≡ ranked entered → listed (withOffer s o) ≡ ranked (o ∷ entered)
+  unfolding rankedBy
+  ranked-with entered e = listed-with ∙ ap (inserted o) e
+
+  -- what holds of the new offer and of every one listed holds of every one listed then
+  pub every-with : {P : Offer → Type 0} → P o → Every P (listed s) → Every P (listed (withOffer s o))
+  every-with {P} p h = rw listed-with (every-inserted overtakes o {P = P} p h)

@@ -1,0 +1,102 @@
+-- `Offers::insert` meets its contract. The loop's invariant is `Carried`: the rows passed, with the offer that is
+-- carried and the rows to come, are the list with the new offer at its place. The measure is how many rows are to come.
+use Prim.Native.Nat.{_+_, _-_}
+use mathlib.Core.List.{List}
+use mathlib.Core.Path.{_≡_, refl, ap}
+use lib.ListN.{length}
+use borrow.Author.Needs.{needs}
+use Rattle.basics.proofs.Cases.{length-mapped}
+use Rattle.offers.specs.declared.Offer.{Offer}
+use Rattle.offers.proofs.Carrying.{Carried, carried-begins, carried-step, carried-ends}
+use Rattle.offers.proofs.Offers.insert.Statement.{statement}
+use Rattle.offers.proofs.Offers.insert.Tie as tie
+
+abbrev Inv-loop : tie.InvT-loop
+Inv-loop rows₀ n carried₀ moved₀ k₀ rows carried moved k = Carried rows₀ n carried₀ rows carried moved k
+
+abbrev μ-loop : tie.MeasureT-loop
+μ-loop rows₀ n carried₀ moved₀ k₀ rows carried moved k = n - k
+
+loop-holds : tie.Need-loop-holds Inv-loop μ-loop
+loop-holds c = carried-begins _ _ _ (search (length-mapped, needs))
+
+mul-row : tie.Need-mul-row Inv-loop μ-loop
+mul-row c = search needs
+
+array-copy-out-row : tie.Need-array-copy-out-row Inv-loop μ-loop
+array-copy-out-row c = search needs
+
+makes-way-requires : tie.Need-makes-way-requires Inv-loop μ-loop
+makes-way-requires c κs = search needs
+
+either-requires : tie.Need-either-requires Inv-loop μ-loop
+either-requires c κs = search needs
+
+mul-rows : tie.Need-mul-rows Inv-loop μ-loop
+mul-rows c = search needs
+
+array-set-from-rows : tie.Need-array-set-from-rows Inv-loop μ-loop
+array-set-from-rows c = search needs
+
+either-requires-2 : tie.Need-either-requires-2 Inv-loop μ-loop
+either-requires-2 c κs = search needs
+
+add-k : tie.Need-add-k Inv-loop μ-loop
+add-k c = search needs
+
+loop-less : tie.Need-loop-less Inv-loop μ-loop
+loop-less c = search needs
+
+loop-again : tie.Need-loop-again Inv-loop μ-loop
+loop-again c =
+    let known = c .before .before .before .before .before in
+    let size : length (known .before .before .args .self .rows) ≡ 64 = search (length-mapped, needs) in
+    let now = known .loop in
+    carried-step _ _ _ (known .before .before .pre) size (now .rows) (now .carried) (now .moved) _ (now .k) _ _ _
+    (now .inv)
+    (search needs)
+    refl
+    (c .before .before .makes-way .ensures)
+    (c .before .either .ensures)
+    (c .either2 .ensures)
+
+mul-rows-2 : tie.Need-mul-rows-2 Inv-loop μ-loop
+mul-rows-2 c = search needs
+
+array-set-from-rows-2 : tie.Need-array-set-from-rows-2 Inv-loop μ-loop
+array-set-from-rows-2 c = search needs
+
+add-t16 : tie.Need-add-t16 Inv-loop μ-loop
+add-t16 c = search needs
+
+returns : tie.Need-returns Inv-loop μ-loop
+returns c =
+    let known = c .before in
+    let args = known .before .before .args in
+    let size : length (args .self .rows) ≡ 64 = search (length-mapped, needs) in
+    let now = known .loop in
+    ap (λ (l : List Offer). record { rows = l; count = args .self .count + 1 })
+    (carried-ends _ _ _ (known .before .before .pre) size (now .rows) (now .carried) (now .moved) (now .k) (now .inv)
+    (search needs))
+
+pub insert-spec : {M : Type 1} → statement M
+insert-spec =
+    tie.close
+    (tie.spec
+    Inv-loop
+    μ-loop
+    loop-holds
+    mul-row
+    array-copy-out-row
+    makes-way-requires
+    either-requires
+    mul-rows
+    array-set-from-rows
+    either-requires-2
+    add-k
+    loop-less
+    loop-again
+    mul-rows-2
+    array-set-from-rows-2
+    add-t16
+    returns)

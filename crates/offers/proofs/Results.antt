@@ -1,0 +1,36 @@
+-- How the result of a buy-in is read.
+use Prim.Native.Nat.{ℕ, _≤_, _<_}
+use native.Mathlib.Omega.{arith}
+use mathlib.Core.Path.{_≡_, sym, ap, _∙_}
+use mathlib.Core.List.{List}
+use lib.ListN.{length, getD, take, length-take}
+use lib.Seq.{getD-take}
+use Rattle.basics.specs.Lists.{table, sum}
+use Rattle.basics.proofs.Places.{padded-front, padded-length}
+use Rattle.offers.specs.declared.Given.{Given}
+use Rattle.offers.specs.declared.Offers.{Offers}
+use Rattle.offers.specs.Held.{listed}
+use Rattle.offers.specs.BuyIn.{given, nothingGiven, boughtWith}
+use Rattle.offers.proofs.Giving.{given-most, given-all-most}
+
+-- there are no more places filled than offers held
+pub lines-most : (i left : ℕ) (s : Offers) → length (given i left (listed s)) ≤ s .count
+lines-most i left s = omega (arith, given-most i left (listed s), length-take (s .count) (s .rows))
+
+-- so too over all obligations below n, whatever is left of each
+pub all-lines-most : (n : ℕ) (left : ℕ → ℕ) (s : Offers)
+    → sum (table n (λ i. length (given i (left i) (listed s)))) ≤ s .count
+all-lines-most n left s = omega (arith, given-all-most n left (listed s), length-take (s .count) (s .rows))
+
+-- the first count places are what was given
+pub bought-given : (gs : List Given) → take (boughtWith gs .count) (boughtWith gs .given) ≡ gs
+bought-given gs = padded-front 64 nothingGiven gs
+
+-- each of these places is what was given there
+pub bought-at : (gs : List Given) (k : ℕ) (d : Given) → k < length gs → getD (boughtWith gs .given) k d ≡ getD gs k d
+bought-at gs k d h =
+    sym (getD-take (length gs) (boughtWith gs .given) k d h) ∙ ap (λ (l : List Given). getD l k d) (bought-given gs)
+
+-- there are 64 places
+pub bought-size : (gs : List Given) → length gs ≤ 64 → length (boughtWith gs .given) ≡ 64
+bought-size gs h = padded-length 64 nothingGiven gs h

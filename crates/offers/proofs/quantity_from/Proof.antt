@@ -1,0 +1,17 @@
+-- `quantity_from` meets its contract: the two ways of its test, and what `smaller` gives.
+use borrow.Author.Tests.{eq-eqb, ne-eqb}
+use borrow.Author.Needs.{needs}
+use Rattle.offers.proofs.quantity_from.Statement.{statement}
+use Rattle.offers.proofs.quantity_from.Tie as tie
+
+smaller-requires : tie.Need-smaller-requires
+smaller-requires c κs = search needs
+
+returns : tie.Need-returns
+returns c = rw (eq-eqb _ _ (c .before .if1 .taken)) (c .smaller .ensures)
+
+returns-2 : tie.Need-returns-2
+returns-2 c = rw (ne-eqb _ _ (c .if1 .left))
+
+pub quantity-from-spec : {M : Type 1} → statement M
+quantity-from-spec = tie.close (tie.spec smaller-requires returns returns-2)

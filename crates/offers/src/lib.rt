@@ -1,0 +1,157 @@
+// The day's offers, kept in the order of the auction, and the pass of a buy-in over them.
+ghost use mathlib.Core.Path.{_≡_};
+ghost use mathlib.Core.Bool.{_||_};
+ghost use Prim.Native.Nat.{_≤_, _<_, min};
+ghost use lib.Dec.{eqb};
+ghost use Rattle.basics.specs.Choice.{pick};
+ghost use Rattle.offers.specs.Rank.{overtakes};
+ghost use Rattle.offers.specs.Held.{noOffers, listed, withOffer};
+ghost use Rattle.offers.specs.BuyIn.{given, boughtWith};
+
+// A supplier's offer for one obligation.
+pub struct Offer {
+    pub obligation: u64,
+    pub supplier: u64,
+    pub quantity: u64,
+    pub price: u64,
+}
+
+// The offers of today, in the order of the auction: the first count rows.
+pub struct Offers {
+    pub rows: [Offer; 64],
+    pub count: usize,
+}
+
+// The quantity that an offer gives.
+pub struct Given {
+    pub offer: Offer,
+    pub quantity: u64,
+}
+
+// What the offers for one obligation give, in the order of the auction: the first count places.
+pub struct BuyIn {
+    pub given: [Given; 64],
+    pub count: usize,
+}
+
+// What stands in a free row.
+const NO_OFFER: Offer = Offer {
+    obligation: 0,
+    supplier: 0,
+    quantity: 0,
+    price: 0,
+};
+
+// What stands in a free place of a buy-in.
+const NOTHING_GIVEN: Given = Given {
+    offer: NO_OFFER,
+    quantity: 0,
+};
+
+// Whether a later offer goes ahead of an earlier one: a lower price, or at the same price a larger quantity.
+fn goes_ahead(later: Offer, earlier: Offer) -> bool
+    ensures { λ r. ⌜ r ≡ overtakes later earlier ⌝ }
+{
+    if later.price < earlier.price {
+        return true;
+    }
+    if earlier.price < later.price {
+        return false;
+    }
+    earlier.quantity < later.quantity
+}
+
+// Whether a row makes way for the offer that is carried along the rows: once one row has, every row behind it does.
+fn makes_way(moved: bool, carried: Offer, row: Offer) -> bool
+    ensures { λ r. ⌜ r ≡ (moved || overtakes carried row) ⌝ }
+{
+    if moved {
+        return true;
+    }
+    goes_ahead(carried, row)
+}
+
+// The first offer where the test holds, else the second.
+fn either(test: bool, first: Offer, second: Offer) -> Offer
+    ensures { λ r. ⌜ r ≡ pick test first second ⌝ }
+{
+    if test { first } else { second }
+}
+
+// The quantity that an offer gives to an obligation: the smaller of its own and what is left, 0 if it is for another.
+fn quantity_from(x: Offer, obligation: u64, left: u64) -> u64
+    ensures { λ r. ⌜ r ≡ pick (eqb (x .obligation) obligation) (min (x .quantity) left) 0 ⌝ }
+{
+    if x.obligation == obligation {
+        return basics::smaller(x.quantity, left);
+    }
+    0
+}
+
+impl Offers {
+    // No offers, as each day begins.
+    pub fn none() -> Offers
+        ensures { λ r. ⌜ r ≡ noOffers ⌝ }
+    {
+        Offers {
+            rows: [NO_OFFER; 64],
+            count: 0,
+        }
+    }
+
+    // One offer more, ahead of the first that it overtakes. It is carried along the rows; from its place on, each row
+    // takes the offer that was ahead of it.
+    pub fn insert(self, o: Offer) -> Offers
+        requires { ⌜ self .count < 64 ⌝ }
+        ensures { λ r. ⌜ r ≡ withOffer self o ⌝ }
+    {
+        let mut rows = self.rows;
+        let n = self.count;
+        let mut carried = o;
+        let mut moved = false;
+        let mut k = 0;
+        while k < n {
+            let row = rows[k];
+            moved = makes_way(moved, carried, row);
+            rows[k] = either(moved, carried, row);
+            carried = either(moved, row, carried);
+            k += 1;
+        }
+        rows[n] = carried;
+        Offers {
+            rows: rows,
+            count: n + 1,
+        }
+    }
+
+    // The buy-in of one obligation of which some quantity is left: one pass over the offers, in the order of the
+    // auction. An offer that gives nothing is passed over.
+    pub fn buy_in(self, obligation: u64, left: u64) -> BuyIn
+        requires { ⌜ self .count ≤ 64 ⌝ }
+        ensures { λ r. ⌜ r ≡ boughtWith (given obligation left (listed self)) ⌝ }
+    {
+        let rows = self.rows;
+        let n = self.count;
+        let mut bought = [NOTHING_GIVEN; 64];
+        let mut count = 0;
+        let mut rest = left;
+        let mut k = 0;
+        while k < n {
+            let x = rows[k];
+            let q = quantity_from(x, obligation, rest);
+            if 0 < q {
+                bought[count] = Given {
+                    offer: x,
+                    quantity: q,
+                };
+                count += 1;
+                rest -= q;
+            }
+            k += 1;
+        }
+        BuyIn {
+            given: bought,
+            count: count,
+        }
+    }
+}
