@@ -2,7 +2,7 @@
 use Prim.Native.Nat.{ℕ, suc, _≤_, _<_}
 use native.Mathlib.Omega.{arith}
 use mathlib.Core.Path.{_≡_, refl, sym, _∙_}
-use mathlib.Core.Bool.{Bool, true, false}
+use mathlib.Core.Bool.{Bool, true, false, _&&_, _||_}
 use mathlib.Core.Logic.{_⊎_, inl, inr}
 use mathlib.Core.List.{List, map}
 use lib.Dec.{ltb}
@@ -38,3 +38,16 @@ below-or-not a b = by (ltb a b) refl
 -- the length of an array of structs, which the checker states of the array as it lies in memory
 pub length-mapped : {X Y : Type 0} (f : X → Y) (l : List X) (n : ℕ) → length (map f l) ≡ n → length l ≡ n
 length-mapped f l n e = sym (length-map l f) ∙ e
+
+-- neither of two tests holds
+pub or-false : {a b : Bool} → (a || b) ≡ false → (a ≡ false) × (b ≡ false)
+or-false {a} {b} = by a b
+  where
+    by : (s t : Bool) → (s || t) ≡ false → (s ≡ false) × (t ≡ false)
+    by true t e = absurd (never (sym e))
+    by false t e = (refl, e)
+
+-- both of two tests hold
+pub and-true : (a b : Bool) → (a && b) ≡ true → (a ≡ true) × (b ≡ true)
+and-true true b e = (refl, e)
+and-true false b e = absurd (never e)

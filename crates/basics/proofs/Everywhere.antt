@@ -1,7 +1,7 @@
 -- What holds of every element of a list, or of every two.
 use Prim.Native.Nat.{ℕ, zero, suc, _<_}
 use native.Mathlib.Omega.{arith}
-use mathlib.Core.Path.{refl}
+use mathlib.Core.Path.{refl, sym, subst}
 use mathlib.Core.List.{List, [], _∷_, _++_, List·Memᴰ, List·Memᴰ·head, List·Memᴰ·tail}
 use lib.ListN.{length, getD, set}
 use Rattle.basics.specs.Lists.{Every, Sorted}
@@ -46,3 +46,8 @@ pub every-set : {A : Type 0} {P : A → Type 0} {xs : List A} → Every P xs →
 every-set nobody n v q = nobody
 every-set (also p ps) zero v q = also q ps
 every-set (also p ps) (suc n) v q = also p (every-set ps n v q)
+
+-- what holds of every element holds of each that is among them
+pub every-member : {A : Type 0} (P : A → Type 0) {x : A} {xs : List A} → Every P xs → List·Memᴰ x xs → P x
+every-member P (also p ps) (List·Memᴰ·head e) = subst P (sym e) p
+every-member P (also p ps) (List·Memᴰ·tail m) = every-member P ps m

@@ -8,7 +8,7 @@ use Rattle.basics.specs.Lists.{total, tableFrom, countBelow, Every}
 use Rattle.basics.specs.Lists.Every.{nobody, also}
 use Rattle.calendar.specs.declared.Day.{Day}
 use Rattle.calendar.specs.declared.NextDay.the-variants.{At}
-use Rattle.calendar.specs.Closed.{day, lastDay, among}
+use Rattle.calendar.specs.Closed.{day, lastDay, closedDays, listed, among}
 use Rattle.calendar.specs.Days.{clearingDays, clearing, clearingWithin, nthAfter, ageAt}
 use Rattle.calendar.proofs.Ages.{age-nth}
 use Rattle.amounts.specs.Quotients.{rounded}
@@ -16,6 +16,14 @@ use Rattle.amounts.specs.Amounts.{value, penalty, compensation, dueFor, cash, c
 use Rattle.netting.specs.Shares.{floorShare, remainder, centsLeft, comesBefore, rank, extraCent, share, shares}
 use Rattle.offers.specs.Rank.{overtakes, insertedBy, rankedBy}
 use Rattle.offers.specs.BuyIn.{offersFor, withGiven, givenBy, given}
+use Rattle.instructions.specs.Match.{fits, firstFit, lowestFit}
+use Rattle.ledger.specs.Obligations.{cashOf}
+use Rattle.ledger.specs.Obligations.{settled as settledSoFar}
+use Rattle.ledger.specs.Obligations.{delivering as deliveringFrom}
+use Rattle.book.specs.Refusals.{answer}
+use Rattle.book.specs.Book.{ageOf}
+use Rattle.book.specs.Instructing.{enterRefusals, obligationOf, enteredAlone, enteredWith, enter, deliverRefusals, deliverRefusalsOf, deliver}
+use Rattle.book.specs.Buying.{offerRefusals, offerRefusalsIn, offerRefusalsOf, offer}
 use Rattle.examples.specs.Table.{table, boughtFrom, nthDay, dayNumber}
 
 -- the n-th clearing day is found by counting the clearing days up to it
@@ -41,6 +49,6 @@ example-9 = λ i. dayNumber (thirtieth i) ++ dayNumber (thirty-fifth i) ++ dayNu
 
 -- in every row, what the definitions give is what 01 says
 pub settled : Every (λ r. r .computed ≡ r .settled) table
-unfolding total tableFrom countBelow rounded value penalty compensation dueFor cash cashOfEach charge tolerance amountsMatch aboveCap floorShare remainder centsLeft comesBefore rank extraCent share shares overtakes insertedBy rankedBy offersFor withGiven givenBy given boughtFrom
+unfolding total tableFrom countBelow rounded value penalty compensation dueFor cash cashOfEach charge tolerance amountsMatch aboveCap floorShare remainder centsLeft comesBefore rank extraCent share shares overtakes insertedBy rankedBy offersFor withGiven givenBy given boughtFrom among clearing clearingWithin ageAt closedDays listed answer ageOf enterRefusals obligationOf enteredAlone enteredWith enter deliverRefusals deliverRefusalsOf deliver offerRefusals offerRefusalsIn offerRefusalsOf offer fits firstFit lowestFit settledSoFar cashOf deliveringFrom
 settled =
-    also refl (also refl (also refl (also refl (also refl (also refl (also refl (also refl (also refl (also example-9 (also refl nobody))))))))))
+    also refl (also refl (also refl (also refl (also refl (also refl (also refl (also refl (also refl (also refl (also refl (also refl (also refl (also example-9 (also refl nobody))))))))))))))

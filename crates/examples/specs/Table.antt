@@ -1,5 +1,5 @@
 -- The settled examples of 01, each as a row: its number there, what the definitions give, and what 01 says.
-use Prim.Native.Nat.{ℕ, _+_}
+use Prim.Native.Nat.{ℕ, _+_, _-_}
 use mathlib.Core.Bool.{Bool, true, false}
 use mathlib.Core.List.{List, [], _∷_, _++_}
 use lib.ListN.{take, replicate}
@@ -7,7 +7,7 @@ use Rattle.basics.specs.Choice.{pick}
 use Rattle.calendar.specs.declared.Day.{Day}
 use Rattle.calendar.specs.declared.NextDay.{NextDay}
 use Rattle.calendar.specs.declared.NextDay.the-variants.{At, Never}
-use Rattle.calendar.specs.Closed.{day}
+use Rattle.calendar.specs.Closed.{day, closedDays}
 use Rattle.calendar.specs.Days.{clearingDays, nthAfter}
 use Rattle.amounts.specs.Amounts.{penalty, compensation, cash, cashOfEach, charge, amountsMatch, aboveCap}
 use Rattle.netting.specs.Shares.{shares}
@@ -15,6 +15,13 @@ use Rattle.offers.specs.declared.Offer.{Offer}
 use Rattle.offers.specs.declared.Given.{Given}
 use Rattle.offers.specs.Rank.{ranked}
 use Rattle.offers.specs.BuyIn.{given}
+use Rattle.instructions.specs.Legs.{noLegs, withLeg}
+use Rattle.ledger.specs.Ledger.{newLedger, withNew}
+use Rattle.book.specs.declared.Book.{Book}
+use Rattle.book.specs.Book.{withLegs, withLedger}
+use Rattle.book.specs.Open.{freshBook}
+use Rattle.book.specs.Instructing.{newLeg, enter, deliver}
+use Rattle.book.specs.Buying.{offer}
 
 pub record Row : Type 0 where
   pub item : ℕ
@@ -57,6 +64,41 @@ boughtFrom a q s (g ∷ gs) =
 abbrev pub entered : List Offer
 entered = offerOf 3 7 101000 ∷ offerOf 2 5 100500 ∷ offerOf 1 7 101000 ∷ []
 
+-- a book on a day with one obligation between members 0 and 1, due on day 2, of which this much is delivered, and with
+-- this price at age = grace
+abbrev pub bookOn : ℕ → ℕ → ℕ → ℕ → ℕ → Book
+bookOn today quantity amount delivered gracePrice =
+    withLedger (withNew (record {
+      seller = 0;
+      buyer = 1;
+      quantity = quantity;
+      amount = amount;
+      day = day 2;
+      parts = record {
+        delivered = delivered;
+        «bought_in» = 0;
+        compensated = 0;
+        cancelled = 0;
+        outstanding = quantity - delivered;
+      };
+      «seller_wish» = false;
+      «buyer_wish» = false;
+      «grace_price» = gracePrice;
+    }) newLedger) (freshBook (day today) (closedDays []) 0)
+
+-- the answer to an offer of 5 units on the 31st clearing day after day 2, which is 45
+abbrev pub offerAnswer : ℕ → ℕ → ℕ
+offerAnswer gracePrice price = offer (bookOn 45 10 1000000 0 gracePrice) 0 7 5 price .answer
+
+-- the obligation plus 1, or 0, of a receiving leg entered where a delivering leg waits
+abbrev pub entersWith : ℕ → ℕ → ℕ
+entersWith delivering receiving =
+    enter (withLegs (withLeg (newLeg 0 1 0 10 delivering (day 2)) noLegs) (freshBook (day 2) (closedDays []) 0)) 1 0 1 10 receiving (day 2) .obligation
+
+-- the cash of a delivery of one unit once some are delivered
+abbrev pub cashAfter : ℕ → ℕ → ℕ → ℕ
+cashAfter quantity amount delivered = deliver (bookOn 2 quantity amount delivered 0) 0 1 .cash
+
 -- 01, Settled examples
 abbrev pub table : List Row
 table =
@@ -75,6 +117,10 @@ table =
       settled = 1 ∷ 0 ∷ [];
     }
     ∷ record { item = 7; computed = cashOfEach 1000 3 0 (1 ∷ 1 ∷ 1 ∷ []); settled = 333 ∷ 333 ∷ 334 ∷ [] }
+    ∷ record { item = 4; computed = offerAnswer 99999 107998 ∷ offerAnswer 99999 107999 ∷ []; settled = 0 ∷ 18 ∷ [] }
+    ∷ record { item = 5; computed = entersWith 10000000 10000200 ∷ entersWith 10000000 10000201 ∷ []; settled = 1 ∷ 0 ∷ [] }
+    ∷ record { item = 6; computed = entersWith 10000001 10002501 ∷ entersWith 10000001 10002502 ∷ []; settled = 1 ∷ 0 ∷ [] }
+    ∷ record { item = 7; computed = cashAfter 3 1000 0 ∷ cashAfter 3 1000 1 ∷ cashAfter 3 1000 2 ∷ []; settled = 333 ∷ 333 ∷ 334 ∷ [] }
     ∷ record { item = 8; computed = firstShares 100 200 100 0; settled = 67 ∷ 33 ∷ 0 ∷ [] }
     ∷ record { item = 8; computed = firstShares 100 100 100 100; settled = 34 ∷ 33 ∷ 33 ∷ [] }
     ∷ record {

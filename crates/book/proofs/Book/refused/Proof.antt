@@ -1,0 +1,24 @@
+-- `refused` meets its contract.
+use mathlib.Core.Path.{ap, _∙_}
+use borrow.Author.Needs.{needs}
+use Rattle.book.specs.Open.{freshBook, refusedBook}
+use Rattle.calendar.specs.Closed.{day}
+use Rattle.calendar.specs.declared.ClosedDays.{ClosedDays}
+use Rattle.book.proofs.Book.refused.Statement.{statement}
+use Rattle.book.proofs.Book.refused.Tie as tie
+
+slice-aggregate-listed : tie.Need-slice-aggregate-listed
+slice-aggregate-listed c = search needs
+
+listed-requires : tie.Need-listed-requires
+listed-requires c κs = search needs
+
+fresh-requires : tie.Need-fresh-requires
+fresh-requires c κs = search needs
+
+returns : tie.Need-returns
+unfolding refusedBook
+returns c = c .fresh .ensures ∙ ap (λ (k : ClosedDays). freshBook (day 2) k 0) (c .before .listed .ensures)
+
+pub refused-spec : {M : Type 1} → statement M
+refused-spec = tie.close (tie.spec slice-aggregate-listed listed-requires fresh-requires returns)

@@ -1,0 +1,87 @@
+-- Open gives a valid book, accepted or refused.
+use Prim.Native.Nat.{ℕ, zero, suc, _*_, _≤_, _<_}
+use native.Mathlib.Omega.{arith}
+use mathlib.Core.Path.{_≡_, refl, sym, ap, subst, _∙_}
+use mathlib.Core.Bool.{Bool, true, false, _||_, _&&_, not}
+use mathlib.Core.List.{List, [], _∷_, map}
+use lib.Dec.{ltb, leb, eqb}
+use lib.IntN.{ℤ, pos, natAbs}
+use lib.ListN.{length, getD, replicate, length-map}
+use borrow.Author.Tests.{ltb-true, ltb-false, leb-true, leb-false}
+use Rattle.basics.specs.Choice.{pick}
+use Rattle.basics.proofs.Cases.{never, pick-case}
+use Rattle.basics.proofs.Places.{padded-length}
+use Rattle.calendar.specs.declared.Day.{Day}
+use Rattle.calendar.specs.declared.ClosedDays.{ClosedDays}
+use Rattle.calendar.specs.Closed.{day, lastDay, mostClosed, risesFrom, closedRefused, closedDays, listed, among}
+use Rattle.calendar.specs.Days.{clearing}
+use Rattle.instructions.specs.Legs.{waiting, noLegs}
+use Rattle.instructions.proofs.Keeping.{none-valid, none-waiting}
+use Rattle.ledger.specs.declared.Terms.{Terms}
+use Rattle.ledger.proofs.Valid.{new-valid}
+use Rattle.book.specs.declared.Book.{Book}
+use Rattle.book.specs.declared.Opened.{Opened}
+use Rattle.book.specs.Refusals.{answer, outcome}
+use Rattle.book.specs.Book.{mostPerDay, Valid}
+use Rattle.book.specs.Open.{termsOf, freshBook, refusedBook, openRefusals, opened}
+
+zeros : (n m : ℕ) → getD (replicate n (pos 0)) m (pos 0) ≡ pos 0
+zeros zero m = refl
+zeros (suc n) zero = refl
+zeros (suc n) (suc m) = zeros n m
+
+-- the stages follow one another
+record Stages (t : Terms) : Type 0 where
+  notice-before : t .notice .0 < t .grace .0
+  grace-before : t .grace .0 < t .last .0
+  last-most : t .last .0 ≤ 35
+
+stages : (terms : ℕ) → Stages (termsOf terms)
+stages terms =
+    pick-case Stages (eqb terms 0) _ _ (λ e. record { notice-before = omega arith; grace-before = omega arith; last-most = omega arith })
+    (λ e. record { notice-before = omega arith; grace-before = omega arith; last-most = omega arith })
+
+-- a list of closed days that is not refused is short enough
+pub closed-short : (ds : List ℕ) → closedRefused ds ≡ false → length ds ≤ mostClosed
+unfolding closedRefused
+closed-short ds e = by (leb (length ds) mostClosed) refl e
+  where
+    by : (t : Bool) → leb (length ds) mostClosed ≡ t → not (t && risesFrom 0 ds) ≡ false → length ds ≤ mostClosed
+    by true t q = leb-true (length ds) mostClosed t
+    by false t q = absurd (never (sym q))
+
+-- a fresh book on a clearing day
+pub fresh-valid : (first : Day) (ds : List ℕ) (terms : ℕ) → length ds ≤ mostClosed → first .0 ≤ lastDay → clearing (listed (closedDays ds)) first ≡ true →
+    Valid (freshBook first (closedDays ds) terms)
+unfolding closedDays
+fresh-valid first ds terms short most clears =
+    let s = stages terms in
+    let l = length-map ds day in
+    record {
+      closed-size = padded-length mostClosed (day 0) (map day ds) (omega arith);
+      closed-few = short;
+      notice-before = s .notice-before;
+      grace-before = s .grace-before;
+      last-most = s .last-most;
+      today-clears = clears;
+      today-most = most;
+      legs-valid = none-valid;
+      ledger-valid = new-valid;
+      room = omega (arith, none-waiting);
+      day-clears = λ n h. absurd (omega arith);
+      young = λ n h k. absurd (omega arith);
+      accounts-near = λ m. omega (arith, ap natAbs (zeros 32 m));
+    }
+
+pub refused-valid : Valid refusedBook
+unfolding refusedBook closedDays listed clearing among
+refused-valid = fresh-valid (day 2) [] 0 (omega arith) (omega arith) refl
+
+-- a first day that is not refused
+pub first-good : (cs : List Day) (first : Day) → (ltb lastDay (first .0) || not (clearing cs first)) ≡ false → (first .0 ≤ lastDay) × (clearing cs first ≡ true)
+first-good cs first e = by (ltb lastDay (first .0)) (clearing cs first) refl refl e
+  where
+    by : (t u : Bool) → ltb lastDay (first .0) ≡ t → clearing cs first ≡ u → (t || not u) ≡ false → (first .0 ≤ lastDay) × (clearing cs first ≡ true)
+    by true u p q r = absurd (never (sym r))
+    by false true p q r = (ltb-false lastDay (first .0) p, q)
+    by false false p q r = absurd (never (sym r))

@@ -1,0 +1,6 @@
+pub mod Refusals
+pub mod Book
+pub mod Open
+pub mod Instructing
+pub mod Buying
+pub mod Reading

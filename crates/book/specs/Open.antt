@@ -1,0 +1,56 @@
+-- Open.
+use Prim.Native.Nat.{ℕ}
+use mathlib.Core.Bool.{Bool, true, false, _||_, not}
+use mathlib.Core.List.{List, [], _∷_}
+use lib.Dec.{ltb, eqb}
+use Rattle.basics.specs.Choice.{pick}
+use Rattle.calendar.specs.declared.Day.{Day}
+use Rattle.calendar.specs.declared.ClosedDays.{ClosedDays}
+use Rattle.calendar.specs.Closed.{day, lastDay, closedRefused, closedDays, listed}
+use Rattle.calendar.specs.Days.{clearingDays, clearing}
+use Rattle.instructions.specs.Legs.{noLegs}
+use Rattle.ledger.specs.declared.Terms.{Terms}
+use Rattle.ledger.specs.Ledger.{newLedger}
+use Rattle.book.specs.declared.Book.{Book}
+use Rattle.book.specs.declared.Opened.{Opened}
+use Rattle.book.specs.Refusals.{Refusal, refuse, answer, outcome}
+
+-- 01, Open: terms 0 and 1 (002, chapters 1 and 2)
+abbrev pub termsOf : ℕ → Terms
+termsOf terms =
+    pick (eqb terms 0) (record { notice = clearingDays 29; grace = clearingDays 30; last = clearingDays 35 })
+    (record { notice = clearingDays 7; grace = clearingDays 10; last = clearingDays 13 })
+
+-- 01, Open: a fresh book
+abbrev pub freshBook : Day → ClosedDays → ℕ → Book
+freshBook first closed terms = record {
+  closed = closed;
+  terms = termsOf terms;
+  today = first;
+  «close_since» = false;
+  legs = noLegs;
+  ledger = newLedger;
+}
+
+-- 01, Open: refused, it returns a book with terms 0, no closed days, today = 2
+unfoldable pub refusedBook : Book
+refusedBook = freshBook (day 2) (closedDays []) 0
+
+-- a refused Open
+abbrev pub openRefused : ℕ → Opened
+openRefused n = record { answer = n; book = refusedBook }
+
+-- 01, Refusals, of Open
+unfoldable pub openRefusals : Day → List ℕ → ℕ → List Refusal
+openRefusals first closed terms =
+    refuse 1 (ltb 1 terms)
+    ∷ refuse 4 (closedRefused closed)
+    ∷ refuse 11 (ltb lastDay (first .0) || not (clearing (listed (closedDays closed)) first))
+    ∷ []
+
+-- 01, Open
+unfoldable pub opened : Day → List ℕ → ℕ → Opened
+opened first closed terms =
+    outcome (answer (openRefusals first closed terms))
+    (record { answer = 0; book = freshBook first (closedDays closed) terms })
+    openRefused

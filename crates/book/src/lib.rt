@@ -1,0 +1,81 @@
+// The book of one bond and its calls. Every call takes the book and hands it back in an answer struct, with the answer
+// number (0 is done) and the results; a refused call hands back its number, zeros and the same book.
+use calendar::ClosedDays;
+use calendar::Day;
+use instructions::Legs;
+use ledger::Ledger;
+use ledger::Parts;
+use ledger::Terms;
+
+mod buying;
+mod instructing;
+mod limits;
+mod opening;
+mod reading;
+
+// The settlement-discipline book of one bond.
+pub struct Book {
+    pub closed: ClosedDays,
+    pub terms: Terms,
+    pub today: Day,
+    // Whether a Close was accepted since Open or the last accepted Month.
+    pub close_since: bool,
+    pub legs: Legs,
+    pub ledger: Ledger,
+}
+
+// The answer of Open.
+pub struct Opened {
+    pub answer: u64,
+    pub book: Book,
+}
+
+// The answer of Enter: the leg's number, and the obligation's plus 1, or 0.
+pub struct Entered {
+    pub answer: u64,
+    pub leg: u64,
+    pub obligation: u64,
+    pub book: Book,
+}
+
+// The answer of Withdraw and of Offer.
+pub struct Done {
+    pub answer: u64,
+    pub book: Book,
+}
+
+// The answer of Cancel: the quantity moved.
+pub struct Cancelled {
+    pub answer: u64,
+    pub moved: u64,
+    pub book: Book,
+}
+
+// The answer of Deliver: the cash.
+pub struct Delivered {
+    pub answer: u64,
+    pub cash: u64,
+    pub book: Book,
+}
+
+// The answer of Status: the instructed quantity and its parts.
+pub struct Shown {
+    pub answer: u64,
+    pub quantity: u64,
+    pub parts: Parts,
+    pub book: Book,
+}
+
+// The answer of Account: the signed cents.
+pub struct Balance {
+    pub answer: u64,
+    pub cents: i64,
+    pub book: Book,
+}
+
+// The answer of Look: the number plus 1 of a late obligation, or 0.
+pub struct Looked {
+    pub answer: u64,
+    pub obligation: u64,
+    pub book: Book,
+}

@@ -1,0 +1,103 @@
+// Open.
+use crate::Book;
+use crate::Opened;
+use calendar::ClearingDays;
+use calendar::ClosedDays;
+use calendar::Day;
+use instructions::Legs;
+use ledger::Ledger;
+use ledger::Terms;
+ghost use mathlib.Core.Path.{_≡_};
+ghost use Prim.Native.Nat.{_≤_};
+ghost use mathlib.Core.Bool.{_||_, not};
+ghost use lib.Dec.{ltb};
+ghost use Rattle.calendar.specs.Closed.{lastDay, listed};
+ghost use Rattle.calendar.specs.Days.{clearing};
+ghost use Rattle.book.specs.Open.{termsOf, freshBook, refusedBook, opened};
+ghost use Rattle.book.specs.Book.{Valid};
+
+// The stages by the number of the terms: 0, or else 1.
+fn terms_of(terms: u64) -> Terms
+    ensures { λ r. ⌜ r ≡ termsOf terms ⌝ }
+{
+    if terms == 0 {
+        return Terms {
+            notice: ClearingDays(29),
+            grace: ClearingDays(30),
+            last: ClearingDays(35),
+        };
+    }
+    Terms {
+        notice: ClearingDays(7),
+        grace: ClearingDays(10),
+        last: ClearingDays(13),
+    }
+}
+
+// Whether a first day is refused: after the last day of the calendar, or no clearing day.
+fn is_bad_first(closed: ClosedDays, first: Day) -> bool
+    ensures { λ r. ⌜ r ≡ (ltb lastDay (first .0) || not (clearing (listed closed) first)) ⌝ }
+{
+    if 65_535 < first.0 {
+        return true;
+    }
+    if closed.is_clearing(first) {
+        false
+    } else {
+        true
+    }
+}
+
+impl Book {
+    // A fresh book.
+    fn fresh(first: Day, closed: ClosedDays, terms: u64) -> Book
+        ensures { λ r. ⌜ r ≡ freshBook first closed terms ⌝ }
+    {
+        Book {
+            closed: closed,
+            terms: terms_of(terms),
+            today: first,
+            close_since: false,
+            legs: Legs::none(),
+            ledger: Ledger::new(),
+        }
+    }
+
+    // The book that a refused Open returns.
+    fn refused() -> Book
+        ensures { λ r. ⌜ r ≡ refusedBook ⌝ }
+    {
+        let none = [0u64; 0];
+        Book::fresh(Day(2), ClosedDays::listed(&none), 0)
+    }
+
+    // Opens a book on its first day, with its closed days and its terms.
+    pub fn open(first: Day, closed: &[u64], terms: u64) -> Opened
+        ensures { λ r. ⌜ r ≡ opened first (now (closed .entry)) terms ⌝ }
+        ensures { λ r. ⌜ Valid (r .book) ⌝ }
+    {
+        if 1 < terms {
+            return Opened {
+                answer: 1,
+                book: Book::refused(),
+            };
+        }
+        if calendar::refuses_closed(closed) {
+            return Opened {
+                answer: 4,
+                book: Book::refused(),
+            };
+        }
+        let days = ClosedDays::listed(closed);
+        if is_bad_first(days, first) {
+            return Opened {
+                answer: 11,
+                book: Book::refused(),
+            };
+        }
+        Opened {
+            answer: 0,
+            book: Book::fresh(first, days, terms),
+        }
+    }
+}

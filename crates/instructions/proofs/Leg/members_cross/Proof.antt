@@ -1,0 +1,13 @@
+-- `members_cross` meets its contract.
+use borrow.Author.Tests.{eq-eqb, ne-eqb}
+use Rattle.instructions.proofs.Leg.members_cross.Statement.{statement}
+use Rattle.instructions.proofs.Leg.members_cross.Tie as tie
+
+returns : tie.Need-returns
+returns c = rw (eq-eqb _ _ (c .before .before .if1 .taken))
+
+returns-2 : tie.Need-returns-2
+returns-2 c = rw (ne-eqb _ _ (c .if1 .left))
+
+pub members-cross-spec : {M : Type 1} → statement M
+members-cross-spec = tie.close (tie.spec returns returns-2)

@@ -1,0 +1,62 @@
+-- `lowest_fit` meets its contract.
+use Prim.Native.Nat.{_-_, _≤_}
+use native.Mathlib.Omega.{arith}
+use mathlib.Core.Path.{_≡_, refl, sym, _∙_}
+use lib.ListN.{length, drop}
+use borrow.Author.Needs.{needs}
+use Rattle.basics.proofs.Cases.{length-mapped}
+use Rattle.instructions.specs.Legs.{entered}
+use Rattle.instructions.specs.Match.{firstFit, lowestFit}
+use Rattle.instructions.proofs.Legs.lowest_fit.Statement.{statement}
+use Rattle.instructions.proofs.Matching.{search-more, search-end}
+use Rattle.instructions.proofs.Legs.lowest_fit.Tie as tie
+
+abbrev Inv-loop : tie.InvT-loop
+Inv-loop new self count i₀ i = (i ≤ count) × (firstFit new i (drop i (entered self)) ≡ lowestFit self new)
+
+abbrev μ-loop : tie.MeasureT-loop
+μ-loop new self count i₀ i = count - i
+
+loop-holds : tie.Need-loop-holds Inv-loop μ-loop
+unfolding lowestFit
+loop-holds c = (omega arith, refl)
+
+mul-leg : tie.Need-mul-leg Inv-loop μ-loop
+mul-leg c = search needs
+
+element-copy-out-leg : tie.Need-element-copy-out-leg Inv-loop μ-loop
+element-copy-out-leg c = search needs
+
+fits-new-requires : tie.Need-fits-new-requires Inv-loop μ-loop
+fits-new-requires c κs = search needs
+
+returns : tie.Need-returns Inv-loop μ-loop
+returns c = let h : length (c .before .before .before .before .before .args .t1 .rows) ≡ 128 = search (length-mapped, needs) in sym (sym (c .before .before .before .before .loop .inv .1) ∙ search-more _ _ h (c .before .before .before .before .before .pre) _ (c .before .before .before .loop-test .taken) ∙ rw (sym (c .before .fits-new .ensures) ∙ c .if1 .taken))
+
+add-i : tie.Need-add-i Inv-loop μ-loop
+add-i c = search needs
+
+loop-less : tie.Need-loop-less Inv-loop μ-loop
+loop-less c = search needs
+
+loop-again : tie.Need-loop-again Inv-loop μ-loop
+loop-again c = let h : length (c .before .before .before .before .before .args .t1 .rows) ≡ 128 = search (length-mapped, needs) in (omega arith, sym (search-more _ _ h (c .before .before .before .before .before .pre) _ (c .before .before .before .loop-test .taken) ∙ rw (sym (c .before .fits-new .ensures) ∙ c .if1 .left)) ∙ c .before .before .before .before .loop .inv .1)
+
+returns-2 : tie.Need-returns-2 Inv-loop μ-loop
+returns-2 c = let h : length (c .before .before .args .t1 .rows) ≡ 128 = search (length-mapped, needs) in sym (sym (c .before .loop .inv .1) ∙ search-end _ _ h (c .before .before .pre) _ (c .loop-test .left))
+
+pub lowest-fit-spec : {M : Type 1} → statement M
+lowest-fit-spec =
+    tie.close
+    (tie.spec
+    Inv-loop
+    μ-loop
+    loop-holds
+    mul-leg
+    element-copy-out-leg
+    fits-new-requires
+    returns
+    add-i
+    loop-less
+    loop-again
+    returns-2)

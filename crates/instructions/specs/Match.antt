@@ -1,0 +1,44 @@
+-- Instructions: which waiting leg a new one matches.
+use Prim.Native.Nat.{ℕ, suc, _+_}
+use mathlib.Core.Bool.{Bool, true, false, _&&_, not}
+use mathlib.Core.List.{List, [], _∷_}
+use lib.Dec.{eqb}
+use Rattle.basics.specs.Choice.{pick}
+use Rattle.amounts.specs.Amounts.{amountsMatch}
+use Rattle.instructions.specs.declared.Leg.{Leg}
+use Rattle.instructions.specs.declared.Legs.{Legs}
+use Rattle.instructions.specs.declared.Fit.{Fit}
+use Rattle.instructions.specs.declared.Fit.the-variants.{With, Nobody}
+use Rattle.instructions.specs.Legs.{isWaiting, entered}
+
+-- 01, Enter: side 0 delivers; of two legs, the one that delivers and the one that receives
+abbrev pub delivering : Leg → Leg → Leg
+delivering l other = pick (eqb (l .side) 0) l other
+
+abbrev pub receiving : Leg → Leg → Leg
+receiving l other = pick (eqb (l .side) 0) other l
+
+-- 01, Instructions, matching: each leg's member is the other leg's other member
+abbrev pub membersCross : Leg → Leg → Bool
+membersCross l new = eqb (l .member) (new .other) && eqb (l .other) (new .member)
+
+-- 01, Instructions, matching: the same quantity and settlement day
+abbrev pub sameBusiness : Leg → Leg → Bool
+sameBusiness l new = eqb (l .quantity) (new .quantity) && eqb (l .day .0) (new .day .0)
+
+-- 01, Instructions, matching: whether a leg and a new one fit
+unfoldable pub fits : Leg → Leg → Bool
+fits l new =
+    isWaiting (l .state)
+    && (not (eqb (l .side) (new .side))
+    && (membersCross l new
+    && (sameBusiness l new && amountsMatch (delivering new l .amount) (receiving new l .amount))))
+
+-- the first of a list of legs that fits a new one, where the list begins with leg k
+unfoldable pub firstFit : Leg → ℕ → List Leg → Fit
+firstFit new k [] = Nobody
+firstFit new k (l ∷ ls) = pick (fits l new) (With k) (firstFit new (k + 1) ls)
+
+-- 01, Instructions, matching: the lowest waiting leg that fits
+unfoldable pub lowestFit : Legs → Leg → Fit
+lowestFit s new = firstFit new 0 (entered s)

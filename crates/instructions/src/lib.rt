@@ -1,0 +1,203 @@
+// Instructions: the legs that members enter, and the search for the leg that a new one matches.
+use calendar::Day;
+ghost use mathlib.Core.Path.{_≡_};
+ghost use Prim.Native.Nat.{_≤_, _<_};
+ghost use Rattle.instructions.specs.Legs.{isWaiting, noLegs, inState, fetchedLeg, withState, withLeg};
+ghost use Rattle.instructions.specs.Match.{delivering, receiving, membersCross, sameBusiness, fits, lowestFit};
+
+// What has become of a leg. A matched one names its obligation. Withdrawn stands first, since a free place holds it.
+pub enum LegState {
+    Withdrawn,
+    Waiting,
+    Matched(u64),
+}
+
+// One member's instruction. Side 0 delivers, side 1 receives.
+pub struct Leg {
+    pub member: u64,
+    pub other: u64,
+    pub side: u64,
+    pub quantity: u64,
+    pub amount: u64,
+    pub day: Day,
+    pub state: LegState,
+}
+
+// The legs that were entered, numbered from 0: the first count rows.
+pub struct Legs {
+    pub rows: [Leg; 128],
+    pub count: usize,
+}
+
+// The answer to a number that names a leg.
+pub enum FetchedLeg {
+    Found(Leg),
+    Absent,
+}
+
+// The leg that a new one matches, by its number, if there is one.
+pub enum Fit {
+    With(u64),
+    Nobody,
+}
+
+// What stands in a free place. It is withdrawn, so that it matches nothing.
+const NO_LEG: Leg = Leg {
+    member: 0,
+    other: 0,
+    side: 0,
+    quantity: 0,
+    amount: 0,
+    day: Day(0),
+    state: LegState::Withdrawn,
+};
+
+// Whether a leg waits.
+pub fn is_waiting(state: LegState) -> bool
+    ensures { λ r. ⌜ r ≡ isWaiting state ⌝ }
+{
+    match state {
+        LegState::Withdrawn => false,
+        LegState::Waiting => true,
+        LegState::Matched(_) => false,
+    }
+}
+
+impl Leg {
+    // Of two legs, the one that delivers.
+    pub fn delivering(self, other: Leg) -> Leg
+        ensures { λ r. ⌜ r ≡ delivering self other ⌝ }
+    {
+        if self.side == 0 { self } else { other }
+    }
+
+    // Of two legs, the one that receives.
+    pub fn receiving(self, other: Leg) -> Leg
+        ensures { λ r. ⌜ r ≡ receiving self other ⌝ }
+    {
+        if self.side == 0 { other } else { self }
+    }
+
+    // Whether each leg's member is the other's other member.
+    fn members_cross(self, new: Leg) -> bool
+        ensures { λ r. ⌜ r ≡ membersCross self new ⌝ }
+    {
+        if self.member == new.other {
+            return self.other == new.member;
+        }
+        false
+    }
+
+    // Whether two legs have the same quantity and settlement day.
+    fn same_business(self, new: Leg) -> bool
+        ensures { λ r. ⌜ r ≡ sameBusiness self new ⌝ }
+    {
+        let day = self.day;
+        let new_day = new.day;
+        if self.quantity == new.quantity {
+            return day.0 == new_day.0;
+        }
+        false
+    }
+
+    // Whether a leg is one that a new leg matches.
+    pub fn fits_new(self, new: Leg) -> bool
+        ensures { λ r. ⌜ r ≡ fits self new ⌝ }
+    {
+        let state = self.state;
+        if is_waiting(state) {} else {
+            return false;
+        }
+        if self.side == new.side {
+            return false;
+        }
+        if self.members_cross(new) {} else {
+            return false;
+        }
+        if self.same_business(new) {} else {
+            return false;
+        }
+        amounts::amounts_match(new.delivering(self).amount, new.receiving(self).amount)
+    }
+
+    // The same leg in another state.
+    pub fn in_state(self, state: LegState) -> Leg
+        ensures { λ r. ⌜ r ≡ inState state self ⌝ }
+    {
+        let day = self.day;
+        Leg {
+            member: self.member,
+            other: self.other,
+            side: self.side,
+            quantity: self.quantity,
+            amount: self.amount,
+            day: day,
+            state: state,
+        }
+    }
+}
+
+impl Legs {
+    // No legs.
+    pub fn none() -> Legs
+        ensures { λ r. ⌜ r ≡ noLegs ⌝ }
+    {
+        Legs {
+            rows: [NO_LEG; 128],
+            count: 0,
+        }
+    }
+
+    // The leg with a number.
+    pub fn fetch(self, number: u64) -> FetchedLeg
+        requires { ⌜ self .count ≤ 128 ⌝ }
+        ensures { λ r. ⌜ r ≡ fetchedLeg self number ⌝ }
+    {
+        let count = self.count;
+        if number < count as u64 {
+            let i = number as usize;
+            return FetchedLeg::Found(self.rows[i]);
+        }
+        FetchedLeg::Absent
+    }
+
+    // The leg with a number, in another state.
+    pub fn set_state(mut self, number: u64, state: LegState) -> Legs
+        requires { ⌜ number < 128 ⌝ }
+        ensures { λ r. ⌜ r ≡ withState number state self ⌝ }
+    {
+        let i = number as usize;
+        let leg = self.rows[i];
+        let next = leg.in_state(state);
+        self.rows[i] = next;
+        self
+    }
+
+    // One leg more, with the next number.
+    pub fn add(mut self, leg: Leg) -> Legs
+        requires { ⌜ self .count < 128 ⌝ }
+        ensures { λ r. ⌜ r ≡ withLeg leg self ⌝ }
+    {
+        let i = self.count;
+        self.rows[i] = leg;
+        self.count = i + 1;
+        self
+    }
+
+    // The lowest leg that a new one matches.
+    pub fn lowest_fit(self, new: Leg) -> Fit
+        requires { ⌜ self .count ≤ 128 ⌝ }
+        ensures { λ r. ⌜ r ≡ lowestFit self new ⌝ }
+    {
+        let count = self.count;
+        let mut i = 0;
+        while i < count {
+            let leg = self.rows[i];
+            if leg.fits_new(new) {
+                return Fit::With(i as u64);
+            }
+            i += 1;
+        }
+        Fit::Nobody
+    }
+}

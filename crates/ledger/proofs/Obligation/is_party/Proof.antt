@@ -1,0 +1,16 @@
+-- `is_party` meets its contract.
+use borrow.Author.Tests.{eq-eqb, ne-eqb}
+use Rattle.ledger.specs.Obligations.{isParty}
+use Rattle.ledger.proofs.Obligation.is_party.Statement.{statement}
+use Rattle.ledger.proofs.Obligation.is_party.Tie as tie
+
+returns : tie.Need-returns
+unfolding isParty
+returns c = rw (eq-eqb _ _ (c .if1 .taken))
+
+returns-2 : tie.Need-returns-2
+unfolding isParty
+returns-2 c = rw (ne-eqb _ _ (c .before .if1 .left))
+
+pub is-party-spec : {M : Type 1} → statement M
+is-party-spec = tie.close (tie.spec returns returns-2)

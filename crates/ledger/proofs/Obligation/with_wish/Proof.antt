@@ -1,0 +1,16 @@
+-- `with_wish` meets its contract.
+use borrow.Author.Tests.{eq-eqb, ne-eqb}
+use Rattle.ledger.specs.Obligations.{withWish}
+use Rattle.ledger.proofs.Obligation.with_wish.Statement.{statement}
+use Rattle.ledger.proofs.Obligation.with_wish.Tie as tie
+
+returns : tie.Need-returns
+unfolding withWish
+returns c = rw (eq-eqb _ _ (c .if1 .taken))
+
+returns-2 : tie.Need-returns-2
+unfolding withWish
+returns-2 c = rw (ne-eqb _ _ (c .if1 .left))
+
+pub with-wish-spec : {M : Type 1} → statement M
+with-wish-spec = tie.close (tie.spec returns returns-2)

@@ -1,0 +1,125 @@
+-- A new ledger is valid, and a changed obligation, a new one and a new offer leave a valid ledger.
+use Prim.Native.Nat.{ℕ, suc, _+_, _≤_, _<_}
+use native.Mathlib.Omega.{arith}
+use mathlib.Core.Path.{_≡_, refl, sym, ap, _∙_}
+use mathlib.Core.Bool.{Bool, true, false}
+use mathlib.Core.List.{List}
+use lib.Dec.{ltb}
+use lib.IntN.{pos}
+use lib.ListN.{length, getD, set, length-set}
+use borrow.Author.Tests.{ltb-true, ltb-false}
+use Rattle.basics.specs.Choice.{pick}
+use Rattle.basics.specs.Lists.{Every, Sorted}
+use Rattle.basics.specs.Lists.Every.{nobody}
+use Rattle.basics.specs.Lists.Sorted.{empty}
+use Rattle.basics.proofs.Everywhere.{every-map}
+use Rattle.basics.proofs.Places.{set-case}
+use Rattle.netting.specs.Accounts.{balance}
+use Rattle.offers.specs.declared.Offer.{Offer}
+use Rattle.offers.specs.Rank.{overtakes}
+use Rattle.offers.specs.Held.{listed, withOffer}
+use Rattle.offers.proofs.Holding.{size-with, every-with, listed-with}
+use Rattle.offers.proofs.Ranking.{inserted-in-rank}
+use Rattle.ledger.specs.declared.Obligation.{Obligation}
+use Rattle.ledger.specs.declared.Ledger.{Ledger}
+use Rattle.ledger.specs.declared.Fetched.{Fetched}
+use Rattle.ledger.specs.declared.Fetched.the-variants.{Found, Absent}
+use Rattle.ledger.specs.Obligations.{noObligation, Sound}
+use Rattle.ledger.specs.Ledger.{newLedger, obligationAt, fetched, withObligation, withNew, withOfferFor, SoundOffer, ValidLedger}
+
+-- no obligations, no offers, all accounts zero
+pub new-valid : ValidLedger newLedger
+unfolding balance
+new-valid = record {
+  size = refl;
+  few = omega arith;
+  sound = λ n h. absurd (omega arith);
+  offers-size = refl;
+  offers-few = omega arith;
+  offers-sound = nobody;
+  offers-ranked = empty;
+  accounts-size = refl;
+  accounts-even = refl;
+}
+
+-- what a number that was found is: below the count, and the obligation that stands there
+pub record There (l : Ledger) (n : ℕ) (o : Obligation) : Type 0 where
+  pub below : ltb n (l .count) ≡ true
+  pub same : o ≡ obligationAt l n
+
+pub found-there : (l : Ledger) (n : ℕ) (o : Obligation) → fetched l n ≡ Found o → There l n o
+unfolding fetched
+found-there l n o e = by (ltb n (l .count)) refl e
+  where
+    by : (t : Bool) → ltb n (l .count) ≡ t → pick t (Found (obligationAt l n)) Absent ≡ Found o → There l n o
+    by true t q = record { below = t; same = cc }
+    by false t q = let z : _≡_ {A = ℕ} 0 1 = cc in absurd (omega arith)
+
+pub absent-not : (l : Ledger) (n : ℕ) → fetched l n ≡ Absent → ltb n (l .count) ≡ false
+unfolding fetched
+absent-not l n e = by (ltb n (l .count)) refl e
+  where
+    by : (t : Bool) → ltb n (l .count) ≡ t → pick t (Found (obligationAt l n)) Absent ≡ Absent → ltb n (l .count) ≡ false
+    by true t q = let z : _≡_ {A = ℕ} 0 1 = cc in absurd (omega arith)
+    by false t q = t
+
+module _ (l : Ledger) (v : ValidLedger l) where
+  -- an obligation that was found is sound
+  pub there-sound : (n : ℕ) (o : Obligation) → There l n o → Sound o
+  there-sound n o t = rw (t .same) (v .sound n (ltb-true n (l .count) (t .below)))
+
+  -- an obligation of it, changed and sound
+  pub valid-changed : (n : ℕ) (o : Obligation) → n < l .count → Sound o → ValidLedger (withObligation n o l)
+  valid-changed n o h s = record {
+    size = length-set (l .obligations) n o ∙ v .size;
+    few = v .few;
+    sound = λ k q. set-case Sound (l .obligations) n k o noObligation (omega (arith, v .size, v .few)) (λ e. s) (λ e. v .sound k q);
+    offers-size = v .offers-size;
+    offers-few = v .offers-few;
+    offers-sound = v .offers-sound;
+    offers-ranked = v .offers-ranked;
+    accounts-size = v .accounts-size;
+    accounts-even = v .accounts-even;
+  }
+
+  -- an offer for one of n obligations is one for more
+  more-offers : (x : Offer) → SoundOffer (l .count) x → SoundOffer (l .count + 1) x
+  more-offers x s = record {
+    there = omega (arith, s .there);
+    supplier-most = s .supplier-most;
+    quantity-some = s .quantity-some;
+    quantity-most = s .quantity-most;
+    price-some = s .price-some;
+    price-most = s .price-most;
+  }
+
+  -- one obligation more
+  pub valid-more : (o : Obligation) → l .count < 64 → Sound o → ValidLedger (withNew o l)
+  valid-more o h s = record {
+    size = length-set (l .obligations) (l .count) o ∙ v .size;
+    few = omega arith;
+    sound = λ k q. set-case Sound (l .obligations) (l .count) k o noObligation (omega (arith, v .size)) (λ e. s) (λ e. v .sound k (below k q e));
+    offers-size = v .offers-size;
+    offers-few = v .offers-few;
+    offers-sound = every-map more-offers (v .offers-sound);
+    offers-ranked = v .offers-ranked;
+    accounts-size = v .accounts-size;
+    accounts-even = v .accounts-even;
+  }
+    where
+      below : (k : ℕ) → k < l .count + 1 → (k ≡ l .count → ⊥) → k < l .count
+      below k q e = omega arith
+
+  -- one offer more
+  pub valid-offer : (x : Offer) → l .offers .count < 64 → SoundOffer (l .count) x → ValidLedger (withOfferFor x l)
+  valid-offer x h s = record {
+    size = v .size;
+    few = v .few;
+    sound = v .sound;
+    offers-size = size-with (l .offers) x h (v .offers-size);
+    offers-few = omega arith;
+    offers-sound = every-with (l .offers) x h (v .offers-size) s (v .offers-sound);
+    offers-ranked = rw (listed-with (l .offers) x h (v .offers-size)) (inserted-in-rank x (v .offers-ranked));
+    accounts-size = v .accounts-size;
+    accounts-even = v .accounts-even;
+  }

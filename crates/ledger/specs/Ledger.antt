@@ -1,0 +1,69 @@
+-- The ledger: obligations, offers and accounts.
+use Prim.Native.Nat.{ℕ, _+_, _≤_, _<_}
+use mathlib.Core.Path.{_≡_}
+use mathlib.Core.Bool.{Bool, false}
+use lib.Dec.{ltb}
+use lib.IntN.{pos}
+use lib.ListN.{length, getD, set, replicate}
+use Rattle.basics.specs.Choice.{pick}
+use Rattle.basics.specs.Lists.{Every, Sorted}
+use Rattle.amounts.specs.Amounts.{mostQuantity, mostOfferPrice}
+use Rattle.netting.specs.Accounts.{balance}
+use Rattle.offers.specs.declared.Offer.{Offer}
+use Rattle.offers.specs.declared.Offers.{Offers}
+use Rattle.offers.specs.Rank.{overtakes}
+use Rattle.offers.specs.Held.{noOffers, listed, withOffer}
+use Rattle.ledger.specs.declared.Obligation.{Obligation}
+use Rattle.ledger.specs.declared.Fetched.{Fetched}
+use Rattle.ledger.specs.declared.Fetched.the-variants.{Found, Absent}
+use Rattle.ledger.specs.declared.Ledger.{Ledger}
+use Rattle.ledger.specs.Obligations.{noObligation, Sound}
+
+-- 01, Open and Month: no obligations, no offers, thirty-two accounts of zero
+abbrev pub newLedger : Ledger
+newLedger = record { obligations = replicate 64 noObligation; count = 0; offers = noOffers; accounts = replicate 32 (pos 0) }
+
+-- the obligation with a number; zeros where there is none
+abbrev pub obligationAt : Ledger → ℕ → Obligation
+obligationAt l n = getD (l .obligations) n noObligation
+
+-- 01, Refusals, 13: whether there is an obligation with a number
+abbrev pub isThere : Ledger → ℕ → Bool
+isThere l n = ltb n (l .count)
+
+-- 01, Refusals: a call that names an obligation first fetches it
+unfoldable pub fetched : Ledger → ℕ → Fetched
+fetched l n = pick (ltb n (l .count)) (Found (obligationAt l n)) Absent
+
+-- the obligation with a number, changed
+abbrev pub withObligation : ℕ → Obligation → Ledger → Ledger
+withObligation n o l = record { obligations = set (l .obligations) n o; count = l .count; offers = l .offers; accounts = l .accounts }
+
+-- 01, Instructions: obligations are numbered from 0
+abbrev pub withNew : Obligation → Ledger → Ledger
+withNew o l = record { obligations = set (l .obligations) (l .count) o; count = l .count + 1; offers = l .offers; accounts = l .accounts }
+
+-- 01, Buy-in, Offer: one offer more
+abbrev pub withOfferFor : Offer → Ledger → Ledger
+withOfferFor o l = record { obligations = l .obligations; count = l .count; offers = withOffer (l .offers) o; accounts = l .accounts }
+
+-- what holds of every offer of today, where there are n obligations
+pub record SoundOffer (n : ℕ) (x : Offer) : Type 0 where
+  pub there : x .obligation < n
+  pub supplier-most : x .supplier ≤ 999
+  pub quantity-some : 1 ≤ x .quantity
+  pub quantity-most : x .quantity ≤ mostQuantity
+  pub price-some : 1 ≤ x .price
+  pub price-most : x .price ≤ mostOfferPrice
+
+-- what holds of the ledger of every book
+pub record ValidLedger (l : Ledger) : Type 0 where
+  pub size : length (l .obligations) ≡ 64
+  pub few : l .count ≤ 64
+  pub sound : (n : ℕ) → n < l .count → Sound (obligationAt l n)
+  pub offers-size : length (l .offers .rows) ≡ 64
+  pub offers-few : l .offers .count ≤ 64
+  pub offers-sound : Every (SoundOffer (l .count)) (listed (l .offers))
+  pub offers-ranked : Sorted (λ x y. overtakes y x ≡ false) (listed (l .offers))
+  pub accounts-size : length (l .accounts) ≡ 32
+  pub accounts-even : balance (l .accounts) ≡ pos 0

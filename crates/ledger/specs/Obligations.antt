@@ -1,0 +1,149 @@
+-- Obligations, and what becomes of their quantity.
+use Prim.Native.Nat.{ℕ, _+_, _-_, _≤_, _<_}
+use mathlib.Core.Path.{_≡_}
+use mathlib.Core.Bool.{Bool, true, false, _&&_, _||_}
+use lib.Dec.{eqb}
+use Rattle.basics.specs.Choice.{pick}
+use Rattle.calendar.specs.declared.Day.{Day}
+use Rattle.calendar.specs.Closed.{day}
+use Rattle.amounts.specs.Amounts.{mostQuantity, mostAmount, mostClosePrice, cash}
+use Rattle.ledger.specs.declared.Parts.{Parts}
+use Rattle.ledger.specs.declared.Obligation.{Obligation}
+
+-- nothing of a quantity of 0
+abbrev pub noParts : Parts
+noParts = record { delivered = 0; «bought_in» = 0; compensated = 0; cancelled = 0; outstanding = 0 }
+
+-- what stands in a free place
+abbrev pub noObligation : Obligation
+noObligation = record {
+  seller = 0;
+  buyer = 0;
+  quantity = 0;
+  amount = 0;
+  day = day 0;
+  parts = noParts;
+  «seller_wish» = false;
+  «buyer_wish» = false;
+  «grace_price» = 0;
+}
+
+-- the parties and the terms of an obligation with other parts, wishes or price at age = grace
+abbrev pub withParts : Parts → Obligation → Obligation
+withParts p o = record {
+  seller = o .seller;
+  buyer = o .buyer;
+  quantity = o .quantity;
+  amount = o .amount;
+  day = o .day;
+  parts = p;
+  «seller_wish» = o .«seller_wish»;
+  «buyer_wish» = o .«buyer_wish»;
+  «grace_price» = o .«grace_price»;
+}
+
+abbrev pub withWishes : Bool → Bool → Obligation → Obligation
+withWishes s b o = record {
+  seller = o .seller;
+  buyer = o .buyer;
+  quantity = o .quantity;
+  amount = o .amount;
+  day = o .day;
+  parts = o .parts;
+  «seller_wish» = s;
+  «buyer_wish» = b;
+  «grace_price» = o .«grace_price»;
+}
+
+-- 01, Instructions: a new obligation, of which all is outstanding
+abbrev pub newObligation : ℕ → ℕ → ℕ → ℕ → Day → Obligation
+newObligation seller buyer quantity amount j = record {
+  seller = seller;
+  buyer = buyer;
+  quantity = quantity;
+  amount = amount;
+  day = j;
+  parts = record { delivered = 0; «bought_in» = 0; compensated = 0; cancelled = 0; outstanding = quantity };
+  «seller_wish» = false;
+  «buyer_wish» = false;
+  «grace_price» = 0;
+}
+
+-- 01, Whole journals: the parts of the instructed quantity
+unfoldable pub allParts : Parts → ℕ
+allParts p = p .delivered + p .«bought_in» + p .compensated + p .cancelled + p .outstanding
+
+-- 01, Deliver: what is delivered or bought in so far
+unfoldable pub settled : Obligation → ℕ
+settled o = o .parts .delivered + o .parts .«bought_in»
+
+-- 01, Deliver: the cash for q units that are settled next
+unfoldable pub cashOf : Obligation → ℕ → ℕ
+cashOf o q = cash (o .amount) (o .quantity) (settled o) (settled o + q)
+
+-- 01, Deliver: q units move from outstanding to delivered
+unfoldable pub delivering : ℕ → Obligation → Obligation
+delivering q o =
+    let p = o .parts in
+    withParts (record {
+      delivered = p .delivered + q;
+      «bought_in» = p .«bought_in»;
+      compensated = p .compensated;
+      cancelled = p .cancelled;
+      outstanding = p .outstanding - q;
+    }) o
+
+-- 01, Cancel: the seller and the buyer are the parties
+unfoldable pub isParty : Obligation → ℕ → Bool
+isParty o member = eqb (o .seller) member || eqb (o .buyer) member
+
+-- 01, Cancel: whether a party's wish is recorded
+unfoldable pub hasWished : Obligation → ℕ → Bool
+hasWished o member = pick (eqb (o .seller) member) (o .«seller_wish») (o .«buyer_wish»)
+
+-- 01, Cancel: a party's wish is recorded
+unfoldable pub withWish : ℕ → Obligation → Obligation
+withWish member o =
+    pick (eqb (o .seller) member) (withWishes true (o .«buyer_wish») o) (withWishes (o .«seller_wish») true o)
+
+-- 01, Cancel: both parties wish it
+unfoldable pub bothWish : Obligation → Bool
+bothWish o = o .«seller_wish» && o .«buyer_wish»
+
+-- 01, Cancel: all that is outstanding moves to cancelled
+unfoldable pub cancelling : Obligation → Obligation
+cancelling o =
+    let p = o .parts in
+    withParts (record {
+      delivered = p .delivered;
+      «bought_in» = p .«bought_in»;
+      compensated = p .compensated;
+      cancelled = p .cancelled + p .outstanding;
+      outstanding = 0;
+    }) o
+
+-- 01, Cancel: the second party's wish cancels, a first wish is only recorded
+unfoldable pub wishing : ℕ → Obligation → Obligation
+wishing member o = pick (bothWish (withWish member o)) (cancelling (withWish member o)) (withWish member o)
+
+-- 01, Cancel: the quantity moved, 0 for a first wish
+unfoldable pub movedByWish : ℕ → Obligation → ℕ
+movedByWish member o = pick (bothWish (withWish member o)) (o .parts .outstanding) 0
+
+-- what holds of every obligation of a book
+pub record Sound (o : Obligation) : Type 0 where
+  pub quantity-some : 1 ≤ o .quantity
+  pub quantity-most : o .quantity ≤ mostQuantity
+  pub amount-some : 1 ≤ o .amount
+  pub amount-most : o .amount ≤ mostAmount
+  pub seller-below : o .seller < 32
+  pub buyer-below : o .buyer < 32
+  pub parties-apart : o .seller ≡ o .buyer → ⊥
+  pub day-most : o .day .0 ≤ 60000
+  pub whole : allParts (o .parts) ≡ o .quantity
+  pub price-most : o .«grace_price» ≤ mostClosePrice
+
+-- a sound obligation with at least q outstanding
+pub record Takes (o : Obligation) (q : ℕ) : Type 0 where
+  pub sound : Sound o
+  pub enough : q ≤ o .parts .outstanding

@@ -1,0 +1,18 @@
+-- The laws of a journal's text. Examples: lines with what they say. RoundTrips: what is written reads back, numbers,
+-- words and whole calls. Values: of the number that a word is. Arguments: what a caller of `read_line` knows of a
+-- call. Digits and Signed: of the digits of a number. Splitting and Spelling: of words. Shapes: of the numbers that a
+-- call has. Understanding: of whole lines. Writing, Reading and Collecting: the loops that write numbers, read one,
+-- and read those of a line.
+pub mod Digits
+pub mod Signed
+pub mod Writing
+pub mod Splitting
+pub mod Spelling
+pub mod Reading
+pub mod Collecting
+pub mod Values
+pub mod Shapes
+pub mod Understanding
+pub mod Arguments
+pub mod RoundTrips
+pub mod Examples

@@ -1,0 +1,396 @@
+// The text of a journal: a line of it to a call with its arguments, and answers to bytes.
+ghost use mathlib.Core.Path.{_≡_};
+ghost use mathlib.Core.List.{_∷_, map};
+ghost use Prim.Native.Nat.{_+_, _*_, _≤_, _<_};
+ghost use lib.Dec.{eqb};
+ghost use lib.ListN.{length, take, drop};
+ghost use lib.Seq.{sets};
+ghost use Rattle.basics.specs.Choice.{pick};
+ghost use Rattle.text.specs.Numbers.{digitsOf, signedOf};
+ghost use Rattle.text.specs.Words.{space, firstWord, wordsOf, spaced};
+ghost use Rattle.text.specs.Calls.{sameWord, mostNumbers, nameOf, numbersOf, shapeRight};
+ghost use Rattle.text.specs.Lines.{numbersAhead, Understood};
+ghost use Rattle.text.specs.Answers.{Wrote, textOf, answerOf, noCallOf};
+ghost use Rattle.text.specs.Found.{wordAt, namedOf, fewOf};
+
+// The calls of a journal.
+pub enum Name {
+    Open,
+    Enter,
+    Withdraw,
+    Cancel,
+    Deliver,
+    Offer,
+    Close,
+    Month,
+    Status,
+    Account,
+    Look,
+}
+
+// What a line is. A call has its name and how many numbers its arguments are.
+pub enum Line {
+    Call(Name, usize),
+    Comment,
+    NoCall,
+}
+
+// What a word at some place is. A number has its value and the place behind the word.
+enum Word {
+    Number(u64, usize),
+    NoNumber,
+}
+
+// The call that a word names.
+enum Named {
+    As(Name),
+    Nothing,
+}
+
+// How many numbers there are.
+enum Count {
+    All(usize),
+    NotAll,
+}
+
+const SPACE: u8 = b' ';
+
+const LINE_FEED: u8 = b'\n';
+
+const MOST_LISTED: u64 = 4_096;
+
+const MOST_BYTES: usize = 65_536;
+
+const LARGEST: u64 = 18_446_744_073_709_551_615;
+
+// The end of the first word of a line.
+fn word_end(line: &[u8]) -> usize
+    ensures { λ r. ⌜ r ≡ length (firstWord (now (line .entry))) ⌝ }
+{
+    let mut at = 0;
+    while at < line.len() {
+        if line[at] == SPACE {
+            return at;
+        }
+        at += 1;
+    }
+    at
+}
+
+// Whether two words are the same.
+fn is_same(a: &[u8], b: &[u8]) -> bool
+    ensures { λ r. ⌜ r ≡ sameWord (now (a .entry)) (now (b .entry)) ⌝ }
+{
+    if a.len() != b.len() {
+        return false;
+    }
+    let mut i = 0;
+    while i < a.len() {
+        if a[i] != b[i] {
+            return false;
+        }
+        i += 1;
+    }
+    true
+}
+
+// The call that a word names.
+fn name_of(word: &[u8]) -> Named
+    ensures { λ r. ⌜ r ≡ namedOf (nameOf (now (word .entry))) ⌝ }
+{
+    if is_same(word, b"open") {
+        return Named::As(Name::Open);
+    }
+    if is_same(word, b"enter") {
+        return Named::As(Name::Enter);
+    }
+    if is_same(word, b"withdraw") {
+        return Named::As(Name::Withdraw);
+    }
+    if is_same(word, b"cancel") {
+        return Named::As(Name::Cancel);
+    }
+    if is_same(word, b"deliver") {
+        return Named::As(Name::Deliver);
+    }
+    if is_same(word, b"offer") {
+        return Named::As(Name::Offer);
+    }
+    if is_same(word, b"close") {
+        return Named::As(Name::Close);
+    }
+    if is_same(word, b"month") {
+        return Named::As(Name::Month);
+    }
+    if is_same(word, b"status") {
+        return Named::As(Name::Status);
+    }
+    if is_same(word, b"account") {
+        return Named::As(Name::Account);
+    }
+    if is_same(word, b"look") {
+        return Named::As(Name::Look);
+    }
+    Named::Nothing
+}
+
+// The word that ends at a place, of which every byte was a digit: a number, unless it is empty.
+fn ended(value: u64, from: usize, at: usize) -> Word
+    ensures { λ r. ⌜ r ≡ pick (eqb at from) Word.NoNumber (Word.Number value at) ⌝ }
+{
+    if at == from {
+        return Word::NoNumber;
+    }
+    Word::Number(value, at)
+}
+
+// The word that begins at a place. A value that no longer fits 64 bits fits no more, whatever digits follow.
+fn read_word(line: &[u8], from: usize) -> Word
+    requires { ⌜ from ≤ length (now line) ⌝ }
+    ensures { λ r. ⌜ r ≡ wordAt (now (line .entry)) from ⌝ }
+{
+    let mut value: u64 = 0;
+    let mut at = from;
+    while at < line.len() {
+        let byte = line[at];
+        if byte == SPACE {
+            return ended(value, from, at);
+        }
+        if byte < b'0' {
+            return Word::NoNumber;
+        }
+        if b'9' < byte {
+            return Word::NoNumber;
+        }
+        let digit = (byte - b'0') as u64;
+        if (LARGEST - digit) / 10 < value {
+            return Word::NoNumber;
+        }
+        value = value * 10 + digit;
+        at += 1;
+    }
+    ended(value, from, at)
+}
+
+// The numbers from a place to the end of the line, each put into its place as it is read.
+fn read_numbers(line: &[u8], from: usize, numbers: &mut [u64]) -> Count
+    requires { ⌜ from ≤ length (now line) ⌝ }
+    ensures { λ r. ⌜ r ≡ fewOf (length (now (numbers .entry))) (numbersOf (wordsOf (drop from (now (line .entry))))) ⌝ }
+    ensures { λ r. ⌜ now (numbers .exit)
+        ≡ sets (now (numbers .entry)) 0 (numbersAhead (wordsOf (drop from (now (line .entry))))) ⌝ }
+{
+    let mut at = from;
+    let mut count = 0;
+    while count < numbers.len() {
+        let Word::Number(value, end) = read_word(line, at) else {
+            return Count::NotAll;
+        };
+        numbers[count] = value;
+        count += 1;
+        if end == line.len() {
+            return Count::All(count);
+        }
+        at = end + 1;
+    }
+    Count::NotAll
+}
+
+// Whether the numbers of an open are as many as the third of them says.
+fn is_open(numbers: &[u64], count: usize) -> bool
+    requires { ⌜ count ≤ length (now numbers) ⌝ }
+    ensures { λ r. ⌜ r ≡ shapeRight Name.Open (take count (now (numbers .entry))) ⌝ }
+{
+    if count < 3 {
+        return false;
+    }
+    let listed = numbers[2];
+    if MOST_LISTED < listed {
+        return false;
+    }
+    count == 3 + listed as usize
+}
+
+// Whether the numbers of a close are four and the third is no list too long.
+fn is_close(numbers: &[u64], count: usize) -> bool
+    requires { ⌜ count ≤ length (now numbers) ⌝ }
+    ensures { λ r. ⌜ r ≡ shapeRight Name.Close (take count (now (numbers .entry))) ⌝ }
+{
+    if count != 4 {
+        return false;
+    }
+    numbers[2] <= MOST_LISTED
+}
+
+// Whether the numbers of a month are as many as the first of them says.
+fn is_month(numbers: &[u64], count: usize) -> bool
+    requires { ⌜ count ≤ length (now numbers) ⌝ }
+    ensures { λ r. ⌜ r ≡ shapeRight Name.Month (take count (now (numbers .entry))) ⌝ }
+{
+    if count < 3 {
+        return false;
+    }
+    let listed = numbers[0];
+    if MOST_LISTED < listed {
+        return false;
+    }
+    let collected = listed as usize;
+    if count != 3 + collected {
+        return false;
+    }
+    numbers[collected + 1] <= MOST_LISTED
+}
+
+// Whether the first numbers have the shape of a call.
+fn has_shape(name: Name, numbers: &[u64], count: usize) -> bool
+    requires { ⌜ count ≤ length (now numbers) ⌝ }
+    ensures { λ r. ⌜ r ≡ shapeRight name (take count (now (numbers .entry))) ⌝ }
+{
+    match name {
+        Name::Open => is_open(numbers, count),
+        Name::Enter => count == 6,
+        Name::Withdraw => count == 2,
+        Name::Cancel => count == 2,
+        Name::Deliver => count == 2,
+        Name::Offer => count == 4,
+        Name::Close => is_close(numbers, count),
+        Name::Month => is_month(numbers, count),
+        Name::Status => count == 1,
+        Name::Account => count == 1,
+        Name::Look => count == 1,
+    }
+}
+
+// A line of a journal, without its line feed. The numbers of its arguments are put into the first places.
+pub fn read_line(line: &[u8], numbers: &mut [u64]) -> Line
+    requires { ⌜ mostNumbers ≤ length (now numbers) ⌝ }
+    ensures { λ r. ⌜ Understood (now (line .entry)) (now (numbers .entry)) (now (numbers .exit)) r ⌝ }
+{
+    if line.len() == 0 {
+        return Line::Comment;
+    }
+    if line[0] == b'#' {
+        return Line::Comment;
+    }
+    if MOST_BYTES < line.len() {
+        return Line::NoCall;
+    }
+    let end = word_end(line);
+    let Named::As(name) = name_of(&line[..end]) else {
+        return Line::NoCall;
+    };
+    if end == line.len() {
+        return Line::NoCall;
+    }
+    let Count::All(count) = read_numbers(line, end + 1, numbers) else {
+        return Line::NoCall;
+    };
+    if has_shape(name, numbers, count) {
+        return Line::Call(name, count);
+    }
+    Line::NoCall
+}
+
+// Bytes at a place.
+pub fn write_bytes(out: &mut [u8], at: usize, bytes: &[u8]) -> usize
+    requires { ⌜ at + length (now bytes) ≤ length (now out) ⌝ }
+    ensures { λ r. ⌜ Wrote (now (bytes .entry)) (now (out .entry)) at (now (out .exit)) r ⌝ }
+{
+    let mut i = 0;
+    while i < bytes.len() {
+        out[at + i] = bytes[i];
+        i += 1;
+    }
+    at + i
+}
+
+// The digits of a number at a place: those of its tenth part, and then its last.
+fn put_digits(out: &mut [u8], at: usize, n: u64) -> usize
+    requires { ⌜ at + length (digitsOf n) ≤ length (now out) ⌝ }
+    ensures { λ r. ⌜ Wrote (digitsOf n) (now (out .entry)) at (now (out .exit)) r ⌝ }
+{
+    if n < 10 {
+        out[at] = b'0' + n as u8;
+        return at + 1;
+    }
+    let next = put_digits(out, at, n / 10);
+    out[next] = b'0' + (n % 10) as u8;
+    next + 1
+}
+
+// A number at a place, in at most 20 digits.
+pub fn write_number(out: &mut [u8], at: usize, n: u64) -> usize
+    requires { ⌜ at + 20 ≤ length (now out) ⌝ }
+    ensures { λ r. ⌜ Wrote (digitsOf n) (now (out .entry)) at (now (out .exit)) r ⌝ }
+{
+    put_digits(out, at, n)
+}
+
+// A number with its sign at a place. What is below zero is turned about from -1, since 0 less the least number of 64
+// bits would not fit.
+pub fn write_signed(out: &mut [u8], at: usize, z: i64) -> usize
+    requires { ⌜ at + 20 ≤ length (now out) ⌝ }
+    ensures { λ r. ⌜ Wrote (signedOf z) (now (out .entry)) at (now (out .exit)) r ⌝ }
+{
+    if z < 0 {
+        out[at] = b'-';
+        let less = -1 - z;
+        return put_digits(out, at + 1, less as u64 + 1);
+    }
+    put_digits(out, at, z as u64)
+}
+
+// A space and a number at a place.
+fn write_spaced(out: &mut [u8], at: usize, n: u64) -> usize
+    requires { ⌜ at + 21 ≤ length (now out) ⌝ }
+    ensures { λ r. ⌜ Wrote (space ∷ digitsOf n) (now (out .entry)) at (now (out .exit)) r ⌝ }
+{
+    out[at] = SPACE;
+    put_digits(out, at + 1, n)
+}
+
+// Numbers at a place, with a space in front of each.
+fn write_further(out: &mut [u8], at: usize, numbers: &[u64]) -> usize
+    requires { ⌜ at + 21 * length (now numbers) ≤ length (now out) ⌝ }
+    ensures { λ r. ⌜ Wrote (spaced (map digitsOf (now (numbers .entry)))) (now (out .entry)) at (now (out .exit)) r ⌝ }
+{
+    let mut next = at;
+    let mut i = 0;
+    while i < numbers.len() {
+        next = write_spaced(out, next, numbers[i]);
+        i += 1;
+    }
+    next
+}
+
+// Numbers at a place, with one space between two.
+pub fn write_numbers(out: &mut [u8], at: usize, numbers: &[u64]) -> usize
+    requires { ⌜ at + 21 * length (now numbers) ≤ length (now out) ⌝ }
+    ensures { λ r. ⌜ Wrote (textOf (now (numbers .entry))) (now (out .entry)) at (now (out .exit)) r ⌝ }
+{
+    if numbers.len() == 0 {
+        return at;
+    }
+    let next = write_number(out, at, numbers[0]);
+    write_further(out, next, &numbers[1..])
+}
+
+// An answer at a place: its numbers, and a line feed.
+pub fn write_answer(out: &mut [u8], at: usize, numbers: &[u64]) -> usize
+    requires { ⌜ at + 21 * length (now numbers) < length (now out) ⌝ }
+    ensures { λ r. ⌜ Wrote (answerOf (now (numbers .entry))) (now (out .entry)) at (now (out .exit)) r ⌝ }
+{
+    let end = write_numbers(out, at, numbers);
+    out[end] = LINE_FEED;
+    end + 1
+}
+
+// The answer to a line that is no call, by the line's number.
+pub fn write_no_call(out: &mut [u8], at: usize, line: u64) -> usize
+    requires { ⌜ at + 28 ≤ length (now out) ⌝ }
+    ensures { λ r. ⌜ Wrote (noCallOf line) (now (out .entry)) at (now (out .exit)) r ⌝ }
+{
+    let next = write_bytes(out, at, b"? line ");
+    let end = put_digits(out, next, line);
+    out[end] = LINE_FEED;
+    end + 1
+}

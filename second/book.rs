@@ -1,0 +1,1023 @@
+//! The settlement discipline book of one bond.
+//!
+//! "01" in the comments is the paper of the rules, cited by heading and item. Every call tests its
+//! refusals in rising order of their numbers and changes the book only when it is accepted.
+
+use std::cmp::Reverse;
+use std::ops::RangeInclusive;
+
+/// 01, Month: thirty-two accounts, so members are 0 to 31.
+pub const MEMBERS: usize = 32;
+/// 01, Instructions: a book holds 128 legs over its whole life.
+pub const MAX_LEGS: usize = 128;
+/// 01, Buy-in: at most 64 offers.
+pub const MAX_OFFERS: usize = 64;
+/// 01, Open: at most 64 closed days.
+pub const MAX_CLOSED_DAYS: usize = 64;
+/// 01, Close: a list of at least 1,152 words.
+pub const CLOSE_WORDS: usize = 1_152;
+/// 01, Close: a line of six words.
+pub const LINE_WORDS: usize = 6;
+/// 01, Days and units: days run to 65,535.
+pub const LAST_DAY: u64 = 65_535;
+/// 01, Refusals, 11: J above 60,000.
+pub const MAX_SETTLEMENT_DAY: u64 = 60_000;
+
+const MAX_SUPPLIER: u64 = 999;
+const MAX_RATE: u64 = 100;
+const QUANTITIES: RangeInclusive<u64> = 1..=100_000;
+const AMOUNTS: RangeInclusive<u64> = 1..=20_000_000_000;
+const CLOSE_PRICES: RangeInclusive<u64> = 1..=150_000;
+const OFFER_PRICES: RangeInclusive<u64> = 1..=200_000;
+
+/// The kinds of a Close's lines (01, Close).
+const PENALTY: u64 = 1;
+const NOTICE: u64 = 2;
+const BOUGHT: u64 = 3;
+const COMPENSATED: u64 = 4;
+
+/// The number of a refusal (01, Refusals).
+pub type Refusal = u8;
+
+/// Refuses with the number given if its condition holds.
+fn refuse_if(number: Refusal, holds: bool) -> Result<(), Refusal> {
+    if holds {
+        Err(number)
+    } else {
+        Ok(())
+    }
+}
+
+fn no_member(member: u64) -> bool {
+    member >= MEMBERS as u64
+}
+
+/// A number as a place in a list; one too large for any list names no place.
+fn place(number: u64) -> usize {
+    usize::try_from(number).unwrap_or(usize::MAX)
+}
+
+// ---------------------------------------------------------------- calendar
+
+/// 01, Days and units: which days are clearing days.
+#[derive(Clone, Debug, Default, PartialEq)]
+pub struct Calendar {
+    /// The closed days that fall on weekdays, rising. The others close nothing.
+    closed_weekdays: Vec<u64>,
+}
+
+/// Remainder 2 to 6 by 7.
+fn is_weekday(day: u64) -> bool {
+    (2..=6).contains(&(day % 7))
+}
+
+impl Calendar {
+    /// The closed days must be rising.
+    fn new(closed: &[u64]) -> Self {
+        let closed_weekdays = closed
+            .iter()
+            .copied()
+            .filter(|&day| is_weekday(day))
+            .collect();
+        Calendar { closed_weekdays }
+    }
+
+    pub fn is_clearing(&self, day: u64) -> bool {
+        day <= LAST_DAY && is_weekday(day) && self.closed_weekdays.binary_search(&day).is_err()
+    }
+
+    /// The next clearing day after a day that is at most 65,535.
+    pub fn next_after(&self, day: u64) -> Option<u64> {
+        (day + 1..=LAST_DAY).find(|&next| self.is_clearing(next))
+    }
+
+    /// The number of clearing days from day 0 up to the day given: five in each full week and
+    /// those of the week begun, less the closed ones.
+    fn count_up_to(&self, day: u64) -> u64 {
+        let weekdays = day / 7 * 5 + (day % 7).saturating_sub(1);
+        let closed = self
+            .closed_weekdays
+            .partition_point(|&closed| closed <= day);
+        weekdays - closed as u64
+    }
+
+    /// The number of clearing days after the first day given up to the second (01, Buy-in, age).
+    /// It is 0 where the first is not before the second.
+    pub fn clearing_days_between(&self, after: u64, up_to: u64) -> u64 {
+        self.count_up_to(up_to)
+            .saturating_sub(self.count_up_to(after))
+    }
+}
+
+/// 01, Open: the ages at which the stages stand.
+#[derive(Clone, Copy, Debug, PartialEq)]
+pub struct Terms {
+    pub notice: u64,
+    pub grace: u64,
+    pub last: u64,
+}
+
+const TERMS: [Terms; 2] = [
+    Terms {
+        notice: 29,
+        grace: 30,
+        last: 35,
+    },
+    Terms {
+        notice: 7,
+        grace: 10,
+        last: 13,
+    },
+];
+
+impl Terms {
+    /// 01, Close: at ages above grace up to last.
+    pub fn in_buy_in(&self, age: u64) -> bool {
+        self.grace < age && age <= self.last
+    }
+}
+
+// ---------------------------------------------------------------- sums of money
+
+/// 01, Close, penalty: at most 100,000 x 150,000 x 100 before the division.
+fn penalty(quantity: u64, price: u64, rate: u64) -> u64 {
+    (quantity * price * rate + 500_000) / 1_000_000
+}
+
+/// 01, Close, at age = last.
+fn compensation(quantity: u64, price: u64) -> u64 {
+    (quantity * price + 5) / 10
+}
+
+/// 01, Enter: the tolerance goes by the delivering amount.
+fn tolerance(delivering_amount: u64) -> u64 {
+    if delivering_amount <= 10_000_000 {
+        200
+    } else {
+        2_500
+    }
+}
+
+/// 01, Buy-in: the cap over the price of the Close at age = grace.
+fn within_cap(offer_price: u64, grace_price: u64) -> bool {
+    100 * offer_price <= 108 * grace_price
+}
+
+/// 01, Month: the shares of the sum collected.
+fn shares(accounts: &[i64; MEMBERS], collected: u128) -> [u64; MEMBERS] {
+    let mut shares = [0; MEMBERS];
+    let claims = accounts.map(|account| account.max(0) as u128);
+    let all_claims: u128 = claims.iter().sum();
+    if all_claims == 0 {
+        return shares;
+    }
+    for (share, claim) in shares.iter_mut().zip(claims) {
+        *share = (collected * claim / all_claims) as u64;
+    }
+    let paid: u128 = shares.iter().map(|&share| u128::from(share)).sum();
+    let left = (collected - paid) as usize;
+    let mut creditors: Vec<usize> = (0..MEMBERS).filter(|&member| claims[member] > 0).collect();
+    // The sort is stable: ties stay with the lower member first.
+    creditors.sort_by_key(|&member| Reverse(collected * claims[member] % all_claims));
+    for &member in creditors.iter().take(left) {
+        shares[member] += 1;
+    }
+    shares
+}
+
+// ---------------------------------------------------------------- what a book holds
+
+#[derive(Clone, Copy, Debug, PartialEq)]
+pub enum LegState {
+    Waiting,
+    Withdrawn,
+    Matched(usize),
+}
+
+#[derive(Clone, Debug, PartialEq)]
+pub struct Leg {
+    pub member: u64,
+    pub other: u64,
+    pub delivers: bool,
+    pub quantity: u64,
+    pub amount: u64,
+    pub day: u64,
+    pub state: LegState,
+}
+
+impl Leg {
+    /// 01, Enter: whether two legs match, but for the older one's waiting.
+    fn fits(&self, new: &Leg) -> bool {
+        let delivering = if self.delivers {
+            self.amount
+        } else {
+            new.amount
+        };
+        self.delivers != new.delivers
+            && self.member == new.other
+            && self.other == new.member
+            && self.quantity == new.quantity
+            && self.day == new.day
+            && self.amount.abs_diff(new.amount) <= tolerance(delivering)
+    }
+}
+
+#[derive(Clone, Debug, PartialEq)]
+pub struct Obligation {
+    pub seller: u64,
+    pub buyer: u64,
+    pub quantity: u64,
+    pub amount: u64,
+    pub day: u64,
+    pub delivered: u64,
+    pub bought_in: u64,
+    pub compensated: u64,
+    pub cancelled: u64,
+    pub seller_wishes: bool,
+    pub buyer_wishes: bool,
+    /// The price of the Close at age = grace.
+    pub grace_price: Option<u64>,
+}
+
+impl Obligation {
+    fn of(delivering: &Leg, receiving: &Leg) -> Self {
+        Obligation {
+            seller: delivering.member,
+            buyer: receiving.member,
+            quantity: delivering.quantity,
+            amount: delivering.amount,
+            day: delivering.day,
+            delivered: 0,
+            bought_in: 0,
+            compensated: 0,
+            cancelled: 0,
+            seller_wishes: false,
+            buyer_wishes: false,
+            grace_price: None,
+        }
+    }
+
+    pub fn outstanding(&self) -> u64 {
+        self.quantity - self.delivered - self.bought_in - self.compensated - self.cancelled
+    }
+
+    /// 01, Deliver: the cash for a further quantity delivered or bought in.
+    /// A x t is at most 20,000,000,000 x 100,000.
+    fn cash_for(&self, quantity: u64) -> u64 {
+        let before = self.delivered + self.bought_in;
+        let after = before + quantity;
+        self.amount * after / self.quantity - self.amount * before / self.quantity
+    }
+
+    /// The wish of the member if it is a party.
+    fn wish_of(&mut self, member: u64) -> Option<&mut bool> {
+        if member == self.seller {
+            Some(&mut self.seller_wishes)
+        } else if member == self.buyer {
+            Some(&mut self.buyer_wishes)
+        } else {
+            None
+        }
+    }
+
+    /// 01, Close: one offer's turn, which gives the quantity and the charge.
+    fn buy_in(&mut self, offer: &Offer) -> (u64, u64) {
+        let quantity = offer.quantity.min(self.outstanding());
+        let value = quantity * offer.price;
+        let charge = value.saturating_sub(self.cash_for(quantity));
+        self.bought_in += quantity;
+        (quantity, charge)
+    }
+}
+
+#[derive(Clone, Debug, PartialEq)]
+pub struct Offer {
+    pub obligation: usize,
+    pub supplier: u64,
+    pub quantity: u64,
+    pub price: u64,
+}
+
+/// The lent list of a Close, filled line by line.
+struct Lines<'a> {
+    list: &'a mut [u64],
+    count: usize,
+}
+
+impl Lines<'_> {
+    fn put(&mut self, line: [u64; LINE_WORDS]) {
+        let start = self.count * LINE_WORDS;
+        self.list[start..start + LINE_WORDS].copy_from_slice(&line);
+        self.count += 1;
+    }
+}
+
+// ---------------------------------------------------------------- the book
+
+#[derive(Clone, Debug, PartialEq)]
+pub struct Book {
+    pub today: u64,
+    pub terms: Terms,
+    pub calendar: Calendar,
+    pub legs: Vec<Leg>,
+    pub obligations: Vec<Obligation>,
+    pub offers: Vec<Offer>,
+    pub accounts: [i64; MEMBERS],
+    /// Whether a Close was accepted since Open or the last accepted Month.
+    pub closed_since_month: bool,
+}
+
+impl Book {
+    fn fresh(today: u64, terms: Terms, calendar: Calendar) -> Self {
+        Book {
+            today,
+            terms,
+            calendar,
+            legs: Vec::with_capacity(MAX_LEGS),
+            obligations: Vec::with_capacity(MAX_LEGS / 2),
+            offers: Vec::with_capacity(MAX_OFFERS),
+            accounts: [0; MEMBERS],
+            closed_since_month: false,
+        }
+    }
+
+    /// 01, Open: the book that a refused Open returns.
+    pub fn of_refused_open() -> Self {
+        Book::fresh(2, TERMS[0], Calendar::default())
+    }
+
+    /// 01, Open.
+    pub fn open(first_day: u64, terms: u64, closed: &[u64]) -> Result<Self, Refusal> {
+        refuse_if(1, terms > 1)?;
+        let rising = closed.windows(2).all(|pair| pair[0] < pair[1]);
+        let in_range = closed.iter().all(|&day| day <= LAST_DAY);
+        refuse_if(4, closed.len() > MAX_CLOSED_DAYS || !rising || !in_range)?;
+        let calendar = Calendar::new(closed);
+        refuse_if(11, !calendar.is_clearing(first_day))?;
+        Ok(Book::fresh(first_day, TERMS[terms as usize], calendar))
+    }
+
+    /// 01, Enter: the leg, and the obligation plus 1, or 0.
+    pub fn enter(
+        &mut self,
+        member: u64,
+        other: u64,
+        side: u64,
+        quantity: u64,
+        amount: u64,
+        day: u64,
+    ) -> Result<(u64, u64), Refusal> {
+        refuse_if(
+            1,
+            no_member(member) || no_member(other) || member == other || side > 1,
+        )?;
+        refuse_if(2, !QUANTITIES.contains(&quantity))?;
+        refuse_if(3, !AMOUNTS.contains(&amount))?;
+        let too_early = day < self.today;
+        let too_late = day > MAX_SETTLEMENT_DAY;
+        refuse_if(11, too_early || too_late || !self.calendar.is_clearing(day))?;
+        refuse_if(12, self.legs.len() >= MAX_LEGS)?;
+
+        let delivers = side == 0;
+        let state = LegState::Waiting;
+        self.legs.push(Leg {
+            member,
+            other,
+            delivers,
+            quantity,
+            amount,
+            day,
+            state,
+        });
+        let new = self.legs.len() - 1;
+        let matched = self
+            .lowest_fitting(new)
+            .map(|old| self.match_legs(old, new));
+        Ok((
+            new as u64,
+            matched.map_or(0, |obligation| obligation as u64 + 1),
+        ))
+    }
+
+    /// The lowest waiting leg that the leg given matches.
+    fn lowest_fitting(&self, new: usize) -> Option<usize> {
+        let older = &self.legs[..new];
+        older
+            .iter()
+            .position(|leg| leg.state == LegState::Waiting && leg.fits(&self.legs[new]))
+    }
+
+    fn match_legs(&mut self, old: usize, new: usize) -> usize {
+        let (delivering, receiving) = if self.legs[new].delivers {
+            (new, old)
+        } else {
+            (old, new)
+        };
+        let number = self.obligations.len();
+        self.obligations.push(Obligation::of(
+            &self.legs[delivering],
+            &self.legs[receiving],
+        ));
+        self.legs[old].state = LegState::Matched(number);
+        self.legs[new].state = LegState::Matched(number);
+        number
+    }
+
+    /// 01, Withdraw.
+    pub fn withdraw(&mut self, leg: u64, member: u64) -> Result<(), Refusal> {
+        refuse_if(1, no_member(member))?;
+        let leg = self.legs.get_mut(place(leg)).ok_or(13)?;
+        refuse_if(13, leg.state != LegState::Waiting)?;
+        refuse_if(14, leg.member != member)?;
+        leg.state = LegState::Withdrawn;
+        Ok(())
+    }
+
+    /// 01, Refusals: a call that names an obligation first fetches it or refuses by 13.
+    fn fetch(&self, obligation: u64) -> Result<&Obligation, Refusal> {
+        self.obligations.get(place(obligation)).ok_or(13)
+    }
+
+    fn fetch_mut(&mut self, obligation: u64) -> Result<&mut Obligation, Refusal> {
+        self.obligations.get_mut(place(obligation)).ok_or(13)
+    }
+
+    /// 01, Cancel: the quantity moved.
+    pub fn cancel(&mut self, obligation: u64, member: u64) -> Result<u64, Refusal> {
+        refuse_if(1, no_member(member))?;
+        let obligation = self.fetch_mut(obligation)?;
+        let outstanding = obligation.outstanding();
+        let wish = obligation.wish_of(member).ok_or(14)?;
+        refuse_if(14, *wish)?;
+        refuse_if(15, outstanding == 0)?;
+        *wish = true;
+        if obligation.seller_wishes && obligation.buyer_wishes {
+            obligation.cancelled += outstanding;
+            Ok(outstanding)
+        } else {
+            Ok(0)
+        }
+    }
+
+    /// 01, Deliver: the cash.
+    pub fn deliver(&mut self, obligation: u64, quantity: u64) -> Result<u64, Refusal> {
+        refuse_if(2, !QUANTITIES.contains(&quantity))?;
+        let today = self.today;
+        let obligation = self.fetch_mut(obligation)?;
+        refuse_if(15, obligation.outstanding() < quantity)?;
+        refuse_if(16, today < obligation.day)?;
+        let cash = obligation.cash_for(quantity);
+        obligation.delivered += quantity;
+        Ok(cash)
+    }
+
+    /// 01, Buy-in: the age is the number of clearing days after J up to today.
+    pub fn age(&self, obligation: &Obligation) -> u64 {
+        self.calendar
+            .clearing_days_between(obligation.day, self.today)
+    }
+
+    /// 01, Offer.
+    pub fn offer(
+        &mut self,
+        obligation: u64,
+        supplier: u64,
+        quantity: u64,
+        price: u64,
+    ) -> Result<(), Refusal> {
+        refuse_if(1, supplier > MAX_SUPPLIER)?;
+        refuse_if(2, !QUANTITIES.contains(&quantity))?;
+        refuse_if(3, !OFFER_PRICES.contains(&price))?;
+        let fetched = self.fetch(obligation)?;
+        refuse_if(15, fetched.outstanding() == 0)?;
+        let before = self.today < fetched.day;
+        refuse_if(16, before || !self.terms.in_buy_in(self.age(fetched)))?;
+        refuse_if(17, self.offers.len() >= MAX_OFFERS)?;
+        let grace_price = fetched
+            .grace_price
+            .expect("a Close at age = grace comes before every buy-in");
+        refuse_if(18, !within_cap(price, grace_price))?;
+        self.offers.push(Offer {
+            obligation: place(obligation),
+            supplier,
+            quantity,
+            price,
+        });
+        Ok(())
+    }
+
+    /// 01, Close: the number of lines.
+    pub fn close(&mut self, price: u64, rate: u64, list: &mut [u64]) -> Result<usize, Refusal> {
+        refuse_if(3, !CLOSE_PRICES.contains(&price) || rate > MAX_RATE)?;
+        refuse_if(5, list.len() < CLOSE_WORDS)?;
+        let next_day = self.calendar.next_after(self.today).ok_or(20)?;
+
+        let mut lines = Lines { list, count: 0 };
+        for number in 0..self.obligations.len() {
+            let obligation = &self.obligations[number];
+            if obligation.day <= self.today && obligation.outstanding() > 0 {
+                self.close_obligation(number, price, rate, &mut lines);
+            }
+        }
+        self.offers.clear();
+        self.today = next_day;
+        self.closed_since_month = true;
+        Ok(lines.count)
+    }
+
+    /// 01, Close, the four items, for an obligation with J reached and something outstanding.
+    fn close_obligation(&mut self, number: usize, price: u64, rate: u64, lines: &mut Lines) {
+        let age = self.age(&self.obligations[number]);
+        let terms = self.terms;
+        let obligation = &mut self.obligations[number];
+        let named = number as u64;
+        let outstanding = obligation.outstanding();
+
+        // Penalty.
+        let cents = penalty(outstanding, price, rate);
+        self.accounts[obligation.seller as usize] -= cents as i64;
+        self.accounts[obligation.buyer as usize] += cents as i64;
+        lines.put([PENALTY, named, outstanding, cents, 0, 0]);
+
+        // Notice.
+        if age == terms.notice {
+            lines.put([NOTICE, named, outstanding, 0, 0, 0]);
+        }
+
+        // 01, Buy-in: the price that the cap of the offers goes by.
+        if age == terms.grace {
+            obligation.grace_price = Some(price);
+        }
+
+        // Offers.
+        if terms.in_buy_in(age) {
+            for offer in auction_order(&self.offers, number) {
+                let (quantity, charge) = obligation.buy_in(offer);
+                if quantity > 0 {
+                    lines.put([BOUGHT, named, quantity, charge, offer.supplier, offer.price]);
+                }
+            }
+        }
+
+        // Compensation.
+        let left = obligation.outstanding();
+        if age == terms.last && left > 0 {
+            obligation.compensated += left;
+            lines.put([COMPENSATED, named, left, compensation(left, price), 0, 0]);
+        }
+    }
+
+    /// 01, Month.
+    pub fn month(&mut self, collected: &[u64], payouts: &mut [u64]) -> Result<(), Refusal> {
+        refuse_if(5, collected.len() != MEMBERS || payouts.len() != MEMBERS)?;
+        let owed = self.accounts.map(|account| account.min(0).unsigned_abs());
+        refuse_if(
+            19,
+            collected
+                .iter()
+                .zip(owed)
+                .any(|(&amount, owed)| amount > owed),
+        )?;
+        refuse_if(21, !self.closed_since_month)?;
+
+        let sum = collected.iter().map(|&amount| u128::from(amount)).sum();
+        payouts.copy_from_slice(&shares(&self.accounts, sum));
+        self.accounts = [0; MEMBERS];
+        self.closed_since_month = false;
+        Ok(())
+    }
+
+    /// 01, Reading: Q, delivered, bought in, compensated, cancelled, outstanding.
+    pub fn status(&self, obligation: u64) -> Result<[u64; 6], Refusal> {
+        let o = self.fetch(obligation)?;
+        Ok([
+            o.quantity,
+            o.delivered,
+            o.bought_in,
+            o.compensated,
+            o.cancelled,
+            o.outstanding(),
+        ])
+    }
+
+    /// 01, Reading: the account of a member.
+    pub fn account(&self, member: u64) -> Result<i64, Refusal> {
+        refuse_if(1, no_member(member))?;
+        Ok(self.accounts[member as usize])
+    }
+
+    /// 01, Reading: the lowest-numbered obligation, plus 1, that Look may name, or 0.
+    pub fn look(&self, member: u64) -> Result<u64, Refusal> {
+        refuse_if(1, no_member(member))?;
+        let found = (0..self.obligations.len() as u64).find(|&number| self.is_late(number, member));
+        Ok(found.map_or(0, |number| number + 1))
+    }
+
+    /// 01, Reading: whether Look for the member may name the obligation.
+    pub fn is_late(&self, obligation: u64, member: u64) -> bool {
+        self.fetch(obligation)
+            .is_ok_and(|o| o.seller == member && o.day < self.today && o.outstanding() > 0)
+    }
+}
+
+/// 01, Close: offers by rising price, then larger offered quantity, then earlier entry.
+fn auction_order(offers: &[Offer], obligation: usize) -> Vec<&Offer> {
+    let mut queue: Vec<&Offer> = offers
+        .iter()
+        .filter(|o| o.obligation == obligation)
+        .collect();
+    // The sort is stable: what ties stays in the order of entry.
+    queue.sort_by_key(|offer| (offer.price, Reverse(offer.quantity)));
+    queue
+}
+
+#[cfg(test)]
+mod tests {
+    use super::*;
+
+    /// The n-th clearing day after a day, word by word as in 01, Days and units.
+    fn nth_after(calendar: &Calendar, day: u64, n: u64) -> Option<u64> {
+        if n == 0 {
+            Some(day)
+        } else {
+            calendar.next_after(nth_after(calendar, day, n - 1)?)
+        }
+    }
+
+    fn book(terms: u64) -> Book {
+        Book::open(2, terms, &[]).unwrap()
+    }
+
+    /// Enters both legs of an obligation of member 0 towards member 1.
+    fn oblige(book: &mut Book, quantity: u64, amount: u64, day: u64) -> u64 {
+        book.enter(0, 1, 0, quantity, amount, day).unwrap();
+        let (_, plus_1) = book.enter(1, 0, 1, quantity, amount, day).unwrap();
+        plus_1 - 1
+    }
+
+    /// A Close, as the lines that it reports.
+    fn close(book: &mut Book, price: u64, rate: u64) -> Vec<[u64; 6]> {
+        let mut list = vec![77; CLOSE_WORDS];
+        let count = book.close(price, rate, &mut list).unwrap();
+        assert!(list[count * LINE_WORDS..].iter().all(|&word| word == 77));
+        let (lines, _) = list[..count * LINE_WORDS].as_chunks();
+        lines.to_vec()
+    }
+
+    fn close_times(book: &mut Book, times: u64, price: u64) {
+        for _ in 0..times {
+            close(book, price, 0);
+        }
+    }
+
+    fn match_of(delivering: u64, receiving: u64, delivering_first: bool) -> u64 {
+        let mut book = book(0);
+        if delivering_first {
+            book.enter(0, 1, 0, 5, delivering, 2).unwrap();
+            book.enter(1, 0, 1, 5, receiving, 2).unwrap().1
+        } else {
+            book.enter(1, 0, 1, 5, receiving, 2).unwrap();
+            book.enter(0, 1, 0, 5, delivering, 2).unwrap().1
+        }
+    }
+
+    fn month(book: &mut Book, paid: &[(usize, u64)]) -> Result<[u64; MEMBERS], Refusal> {
+        let mut collected = [0; MEMBERS];
+        for &(member, amount) in paid {
+            collected[member] = amount;
+        }
+        let mut payouts = [5; MEMBERS];
+        let answer = book.month(&collected, &mut payouts);
+        if answer.is_err() {
+            assert_eq!(payouts, [5; MEMBERS]);
+        }
+        answer.map(|()| payouts)
+    }
+
+    fn accounts(of: &[(usize, i64)]) -> [i64; MEMBERS] {
+        let mut accounts = [0; MEMBERS];
+        for &(member, cents) in of {
+            accounts[member] = cents;
+        }
+        accounts
+    }
+
+    #[test]
+    fn example_1_penalty_of_a_thousand() {
+        assert_eq!(penalty(1_000, 100_000, 10), 1_000);
+        let mut book = book(0);
+        oblige(&mut book, 1_000, 1, 2);
+        assert_eq!(close(&mut book, 100_000, 10), [[1, 0, 1_000, 1_000, 0, 0]]);
+        assert_eq!((book.account(0), book.account(1)), (Ok(-1_000), Ok(1_000)));
+    }
+
+    #[test]
+    fn example_2_penalty_rounds_half_up() {
+        assert_eq!(penalty(1, 50_000, 10), 1);
+        assert_eq!(penalty(1, 49_999, 10), 0);
+    }
+
+    #[test]
+    fn example_3_compensation() {
+        assert_eq!(compensation(1, 100_005), 10_001);
+        assert_eq!(compensation(1, 100_004), 10_000);
+    }
+
+    #[test]
+    fn example_4_cap() {
+        assert!(within_cap(107_998, 99_999));
+        assert!(!within_cap(107_999, 99_999));
+        let mut book = book(0);
+        oblige(&mut book, 10, 1_000_000, 2);
+        close_times(&mut book, 30, 50_000);
+        assert_eq!(book.offer(0, 1, 1, 1), Err(16)); // age = grace
+        close(&mut book, 99_999, 0);
+        assert_eq!(book.offer(0, 1, 1, 107_998), Ok(()));
+        assert_eq!(book.offer(0, 1, 1, 107_999), Err(18));
+    }
+
+    #[test]
+    fn examples_5_and_6_tolerance() {
+        for first in [false, true] {
+            assert_eq!(match_of(10_000_000, 10_000_200, first), 1);
+            assert_eq!(match_of(10_000_000, 10_000_201, first), 0);
+            assert_eq!(match_of(10_000_001, 10_002_501, first), 1);
+            assert_eq!(match_of(10_000_001, 10_002_502, first), 0);
+            // Below, and with the amounts on either side of 10,000,000.
+            assert_eq!(match_of(10_000_000, 9_999_800, first), 1);
+            assert_eq!(match_of(10_000_000, 9_999_799, first), 0);
+            assert_eq!(match_of(10_000_001, 9_997_501, first), 1);
+            assert_eq!(match_of(10_000_001, 9_997_500, first), 0);
+            assert_eq!(match_of(9_999_900, 10_000_101, first), 0);
+        }
+    }
+
+    #[test]
+    fn example_7_part_deliveries() {
+        let mut book = book(0);
+        oblige(&mut book, 3, 1_000, 2);
+        assert_eq!(
+            [(); 3].map(|()| book.deliver(0, 1)),
+            [Ok(333), Ok(333), Ok(334)]
+        );
+        assert_eq!(book.deliver(0, 1), Err(15));
+        assert_eq!(book.status(0), Ok([3, 3, 0, 0, 0, 0]));
+    }
+
+    #[test]
+    fn example_8_shares() {
+        let two = shares(&accounts(&[(3, 200), (9, 100), (4, -300)]), 100);
+        assert_eq!((two[3], two[9], two[4]), (67, 33, 0));
+        let three = shares(&accounts(&[(0, 100), (1, 100), (31, 100), (2, -300)]), 100);
+        assert_eq!((three[0], three[1], three[31], three[2]), (34, 33, 33, 0));
+    }
+
+    #[test]
+    fn example_9_clearing_days() {
+        let calendar = Calendar::new(&[]);
+        assert_eq!(nth_after(&calendar, 2, 30), Some(44));
+        assert_eq!(nth_after(&calendar, 2, 35), Some(51));
+        assert_eq!(nth_after(&Calendar::new(&[44]), 2, 30), Some(45));
+    }
+
+    #[test]
+    fn example_10_auction() {
+        let mut book = book(0);
+        oblige(&mut book, 10, 1_000_000, 2);
+        close_times(&mut book, 31, 100_000);
+        book.offer(0, 11, 7, 101_000).unwrap();
+        book.offer(0, 12, 5, 100_500).unwrap();
+        book.offer(0, 13, 7, 101_000).unwrap();
+        let lines = close(&mut book, 100_000, 0);
+        assert_eq!(
+            lines,
+            [
+                [1, 0, 10, 0, 0, 0],
+                [3, 0, 5, 2_500, 12, 100_500],
+                [3, 0, 5, 5_000, 11, 101_000]
+            ]
+        );
+        assert_eq!(book.status(0), Ok([10, 0, 10, 0, 0, 0]));
+    }
+
+    #[test]
+    fn ages_are_counts_of_clearing_days() {
+        let calendar = Calendar::new(&[4, 7, 9, 16, 17, 18, 65_533, 65_535]);
+        for from in 0..60 {
+            for to in 0..60 {
+                let plain = (from + 1..=to)
+                    .filter(|&day| calendar.is_clearing(day))
+                    .count();
+                assert_eq!(calendar.clearing_days_between(from, to), plain as u64);
+            }
+        }
+        assert_eq!(calendar.next_after(65_531), Some(65_532));
+        assert_eq!(calendar.next_after(65_532), None);
+        assert_eq!(nth_after(&calendar, 65_531, 2), None);
+    }
+
+    #[test]
+    fn open_refuses_in_order() {
+        let open = |day, terms, closed: &[u64]| Book::open(day, terms, closed).err();
+        let too_many: Vec<u64> = (100..165).collect();
+        assert_eq!(open(u64::MAX, 2, &[5, 5]), Some(1));
+        assert_eq!(open(0, 1, &[5, 5]), Some(4));
+        assert_eq!(open(2, 1, &[65_536]), Some(4));
+        assert_eq!(open(2, 1, &too_many), Some(4));
+        assert_eq!(open(2, 1, &too_many[..64]), None);
+        assert_eq!(open(2, 0, &[2]), Some(11));
+        assert_eq!(open(1, 0, &[]), Some(11));
+        assert_eq!(open(65_533 + 7, 0, &[]), Some(11));
+        assert_eq!(open(65_533, 0, &[0, 65_535]), None);
+    }
+
+    #[test]
+    fn enter_refuses_in_order() {
+        let mut book = Book::open(59_996, 0, &[59_998]).unwrap();
+        assert_eq!(book.enter(32, 1, 2, 0, 0, 0), Err(1));
+        assert_eq!(book.enter(1, 1, 0, 0, 0, 0), Err(1));
+        assert_eq!(book.enter(1, 0, 0, 100_001, 0, 0), Err(2));
+        assert_eq!(book.enter(1, 0, 0, 100_000, 20_000_000_001, 0), Err(3));
+        for day in [59_995, 59_998, 60_001, 60_002, u64::MAX] {
+            assert_eq!(book.enter(1, 0, 0, 1, 1, day), Err(11));
+        }
+        for leg in 0..128 {
+            assert_eq!(book.enter(1, 0, 0, 1, 1, 60_000), Ok((leg, 0)));
+        }
+        assert_eq!(book.enter(1, 0, 0, 1, 1, 60_001), Err(11));
+        assert_eq!(book.enter(0, 1, 1, 1, 1, 60_000), Err(12)); // although it would match
+    }
+
+    #[test]
+    fn the_lowest_waiting_leg_matches() {
+        let mut book = book(0);
+        book.enter(0, 1, 0, 5, 1_201, 2).unwrap(); // too far
+        book.enter(0, 1, 0, 5, 1_150, 2).unwrap(); // withdrawn below
+        book.enter(0, 1, 0, 5, 1_100, 2).unwrap();
+        book.enter(0, 1, 0, 5, 1_000, 2).unwrap();
+        book.withdraw(1, 0).unwrap();
+        assert_eq!(book.enter(1, 0, 1, 5, 1_000, 2), Ok((4, 1)));
+        assert_eq!(book.legs[2].state, LegState::Matched(0));
+        assert_eq!(book.obligations[0].amount, 1_100);
+        assert_eq!(book.enter(1, 0, 1, 5, 1_000, 2), Ok((5, 2)));
+        assert_eq!(book.legs[3].state, LegState::Matched(1));
+        assert_eq!(book.withdraw(2, 0), Err(13));
+        assert_eq!(book.withdraw(1, 1), Err(13));
+        assert_eq!(book.withdraw(0, 1), Err(14));
+        assert_eq!(book.withdraw(6, 0), Err(13));
+        assert_eq!(book.withdraw(u64::MAX, 32), Err(1));
+    }
+
+    #[test]
+    fn wishes() {
+        let mut book = book(0);
+        oblige(&mut book, 5, 1_000, 2);
+        assert_eq!(book.cancel(0, 2), Err(14));
+        assert_eq!(book.cancel(1, 2), Err(13));
+        assert_eq!(book.cancel(0, 1), Ok(0));
+        assert_eq!(book.cancel(0, 1), Err(14));
+        book.deliver(0, 2).unwrap();
+        assert_eq!(book.cancel(0, 0), Ok(3));
+        assert_eq!(book.status(0), Ok([5, 2, 0, 0, 3, 0]));
+        assert_eq!(book.cancel(0, 0), Err(14));
+        // A first wish with nothing outstanding is not recorded.
+        oblige(&mut book, 5, 1_000, 2);
+        book.deliver(1, 5).unwrap();
+        assert_eq!((book.cancel(1, 0), book.cancel(1, 0)), (Err(15), Err(15)));
+    }
+
+    #[test]
+    fn deliver_refuses_in_order() {
+        let mut book = book(0);
+        oblige(&mut book, 5, 1_000, 3);
+        assert_eq!(book.deliver(9, 0), Err(2));
+        assert_eq!(book.deliver(9, 1), Err(13));
+        assert_eq!(book.deliver(0, 6), Err(15));
+        assert_eq!(book.deliver(0, 5), Err(16));
+        assert!(close(&mut book, 1, 0).is_empty()); // J is not reached
+        assert_eq!(book.deliver(0, 5), Ok(1_000));
+    }
+
+    #[test]
+    fn offer_refuses_in_order() {
+        let mut book = book(1);
+        oblige(&mut book, 5, 1_000, 2);
+        oblige(&mut book, 5, 1_000, 2);
+        close_times(&mut book, 11, 100_000);
+        assert_eq!(book.offer(9, 1_000, 0, 0), Err(1));
+        assert_eq!(book.offer(9, 999, 0, 0), Err(2));
+        assert_eq!(book.offer(9, 999, 1, 200_001), Err(3));
+        assert_eq!(book.offer(9, 999, 1, 200_000), Err(13));
+        for _ in 0..63 {
+            assert_eq!(book.offer(0, 999, 100_000, 1), Ok(()));
+        }
+        assert_eq!(book.offer(0, 1, 1, 108_001), Err(18));
+        assert_eq!(book.offer(0, 1, 1, 108_000), Ok(()));
+        assert_eq!(book.offer(1, 1, 1, 108_001), Err(17)); // before 18
+        book.deliver(0, 5).unwrap();
+        assert_eq!(book.offer(0, 1, 1, 1), Err(15));
+        assert_eq!(book.offer(1, 1, 1, 1), Err(17)); // idle offers still count
+        assert_eq!(close(&mut book, 1, 1), [[1, 1, 5, 0, 0, 0]]);
+        assert_eq!(book.offer(1, 1, 1, 1), Ok(())); // dropped by the Close
+    }
+
+    #[test]
+    fn a_life_to_the_last_day() {
+        let mut book = book(1);
+        oblige(&mut book, 10, 1_000, 2);
+        for age in 0..=13 {
+            let lines = close(&mut book, 100_000, 100);
+            let kinds: Vec<u64> = lines.iter().map(|line| line[0]).collect();
+            let expected: &[u64] = match age {
+                7 => &[1, 2],
+                13 => &[1, 4],
+                _ => &[1],
+            };
+            assert_eq!(kinds, expected, "age {age}");
+        }
+        assert_eq!(book.status(0), Ok([10, 0, 0, 10, 0, 0]));
+        assert!(close(&mut book, 100_000, 100).is_empty());
+        assert_eq!(book.look(0), Ok(0));
+    }
+
+    #[test]
+    fn bought_and_compensated_on_the_last_day() {
+        let mut book = book(1);
+        oblige(&mut book, 10, 1_000, 2);
+        close_times(&mut book, 13, 100_000);
+        book.deliver(0, 1).unwrap();
+        book.offer(0, 7, 3, 1).unwrap(); // below its cash: a charge of 0
+        book.offer(0, 8, 4, 100).unwrap();
+        assert_eq!(
+            close(&mut book, 100_005, 10),
+            [
+                [1, 0, 9, 9, 0, 0],
+                [3, 0, 3, 0, 7, 1],
+                [3, 0, 4, 0, 8, 100],
+                [4, 0, 2, 20_001, 0, 0]
+            ]
+        );
+        assert_eq!(book.status(0), Ok([10, 1, 7, 2, 0, 0]));
+    }
+
+    #[test]
+    fn close_refuses_in_order() {
+        let mut book = Book::open(65_533, 0, &[]).unwrap();
+        let mut list = [3; CLOSE_WORDS];
+        assert_eq!(book.close(0, 0, &mut list[1..]), Err(3));
+        assert_eq!(book.close(1, 101, &mut list), Err(3));
+        assert_eq!(book.close(1, 100, &mut list[1..]), Err(5));
+        assert_eq!(book.close(150_000, 100, &mut list), Err(20));
+        assert_eq!((book.today, book.closed_since_month), (65_533, false));
+    }
+
+    #[test]
+    fn a_full_close_has_192_lines() {
+        let mut book = book(1);
+        for _ in 0..64 {
+            oblige(&mut book, 2, 1_000, 2);
+        }
+        close_times(&mut book, 13, 100_000);
+        for number in 0..64 {
+            book.offer(number, number, 1, 100_000).unwrap();
+        }
+        assert_eq!(close(&mut book, 100_000, 0).len(), 192);
+    }
+
+    #[test]
+    fn months() {
+        let mut book = book(0);
+        oblige(&mut book, 1_000, 1, 2);
+        assert_eq!(month(&mut book, &[]), Err(21));
+        assert_eq!(month(&mut book, &[(0, 1)]), Err(19));
+        close(&mut book, 100_000, 10);
+        assert_eq!(month(&mut book, &[(0, 1_001)]), Err(19));
+        assert_eq!(month(&mut book, &[(0, u64::MAX), (2, 2)]), Err(19));
+        assert_eq!(month(&mut book, &[(1, 1)]), Err(19)); // a creditor owes nothing
+        assert_eq!(book.month(&[0; 31], &mut [0; 32]), Err(5));
+        assert_eq!(book.month(&[0; 32], &mut [0; 33]), Err(5));
+        assert_eq!(month(&mut book, &[(0, 999)]).unwrap()[1], 999);
+        assert_eq!((book.account(0), book.account(1)), (Ok(0), Ok(0)));
+        assert_eq!(month(&mut book, &[]), Err(21));
+        close(&mut book, 100_000, 0);
+        assert_eq!(month(&mut book, &[]), Ok([0; MEMBERS]));
+    }
+
+    #[test]
+    fn looks() {
+        let mut book = book(0);
+        oblige(&mut book, 1, 1, 3);
+        oblige(&mut book, 1, 1, 2);
+        assert_eq!(book.look(0), Ok(0)); // J is today, or later
+        close(&mut book, 1, 0);
+        assert_eq!(
+            (book.look(0), book.look(1), book.look(32)),
+            (Ok(2), Ok(0), Err(1))
+        );
+        close(&mut book, 1, 0);
+        assert_eq!(book.look(0), Ok(1));
+        assert!(book.is_late(1, 0) && !book.is_late(2, 0));
+        book.deliver(0, 1).unwrap();
+        assert_eq!(book.look(0), Ok(2));
+    }
+}

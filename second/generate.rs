@@ -1,0 +1,176 @@
+//! `generate SEED CALLS [--calls LIST]`: writes a random journal of about CALLS calls.
+//!
+//! The generator plays its own journal on the book, so that it can aim: it knows the waiting legs,
+//! the open obligations, their ages and the accounts. `aim` makes plausible calls and spoils them,
+//! `scenario` strings them together, `malformed` makes lines that are no calls.
+
+mod aim;
+mod book;
+mod journal;
+mod malformed;
+mod play;
+mod random;
+mod scenario;
+
+use std::env;
+use std::io::{self, BufWriter, Write};
+use std::process::ExitCode;
+
+use book::Refusal;
+use journal::{is_comment, parse, CallSet, NAMES};
+use play::Player;
+use random::Random;
+
+const USAGE: &str = "usage: generate SEED CALLS [--calls LIST]";
+/// So many scenarios in a row that write nothing end the journal.
+const IDLE_SCENARIOS: u32 = 1_000;
+
+/// What a whole life of a book draws on, so that its legs meet.
+struct Cast {
+    members: Vec<u64>,
+    quantities: Vec<u64>,
+    /// Offsets of settlement days from today, in clearing days.
+    delays: Vec<u64>,
+}
+
+pub struct Generator<W: Write> {
+    random: Random,
+    player: Player,
+    calls: CallSet,
+    out: W,
+    /// Lines written so far, and how many of them have an answer.
+    lines: u64,
+    written: u64,
+    limit: u64,
+    cast: Cast,
+    /// In so many of a hundred cases a call is followed by a reading, and by noise.
+    readings: u64,
+    noise: u64,
+    numbers: Vec<u64>,
+    answer: Vec<u8>,
+}
+
+impl<W: Write> Generator<W> {
+    fn new(seed: u64, limit: u64, calls: CallSet, out: W) -> Self {
+        Generator {
+            random: Random::new(seed),
+            player: Player::new(),
+            calls,
+            out,
+            lines: 0,
+            written: 0,
+            limit,
+            cast: Cast {
+                members: vec![0, 1],
+                quantities: vec![1],
+                delays: vec![0],
+            },
+            readings: 30,
+            noise: 5,
+            numbers: Vec::new(),
+            answer: Vec::new(),
+        }
+    }
+
+    fn is_done(&self) -> bool {
+        self.written >= self.limit
+    }
+
+    /// Writes a line and plays it. The line feed is written before the next line: the last line
+    /// may lack it.
+    fn line(&mut self, line: &[u8]) -> io::Result<Option<Refusal>> {
+        if self.lines > 0 {
+            self.out.write_all(b"\n")?;
+        }
+        self.lines += 1;
+        self.out.write_all(line)?;
+        if is_comment(line) {
+            return Ok(None);
+        }
+        self.written += 1;
+        self.answer.clear();
+        let call = parse(line, &self.calls, &mut self.numbers);
+        Ok(call.map(|call| self.player.play(call, &mut self.answer)))
+    }
+
+    /// Whether a call of the name may be written now.
+    fn may_call(&self, name: &str) -> bool {
+        let known = NAMES.iter().position(|&known| known == name);
+        !self.is_done() && known.is_some_and(|call| self.calls.has(call))
+    }
+
+    /// Writes a call alone.
+    fn bare_call(&mut self, name: &str, arguments: &[u64]) -> io::Result<Option<Refusal>> {
+        if !self.may_call(name) {
+            return Ok(None);
+        }
+        let mut line = name.to_string();
+        for argument in arguments {
+            let zeros = if self.random.below(400) == 0 {
+                self.random.place(40)
+            } else {
+                0
+            };
+            line.push(' ');
+            line.push_str(&"0".repeat(zeros));
+            line.push_str(&argument.to_string());
+        }
+        self.line(line.as_bytes())
+    }
+
+    /// Writes a call and, now and then, readings and noise after it.
+    fn call(&mut self, name: &str, arguments: &[u64]) -> io::Result<Option<Refusal>> {
+        let answer = self.bare_call(name, arguments)?;
+        if answer.is_some() {
+            while self.random.percent(self.readings) && !self.is_done() {
+                self.reading()?;
+            }
+            if self.random.percent(self.noise) && !self.is_done() {
+                self.make_noise()?;
+            }
+        }
+        Ok(answer)
+    }
+
+    fn write_all(&mut self) -> io::Result<()> {
+        let mut idle = 0;
+        while !self.is_done() && idle < IDLE_SCENARIOS {
+            let before = self.written;
+            self.any_scenario()?;
+            idle = if self.written > before { 0 } else { idle + 1 };
+        }
+        if self.lines > 0 && !self.random.percent(10) {
+            self.out.write_all(b"\n")?;
+        }
+        self.out.flush()
+    }
+}
+
+fn options() -> Option<(u64, u64, CallSet)> {
+    let arguments: Vec<String> = env::args().skip(1).collect();
+    let words: Vec<&str> = arguments.iter().map(String::as_str).collect();
+    match words[..] {
+        [seed, calls] => Some((seed.parse().ok()?, calls.parse().ok()?, CallSet::all())),
+        [seed, calls, "--calls", list] => Some((
+            seed.parse().ok()?,
+            calls.parse().ok()?,
+            CallSet::listed(list).ok()?,
+        )),
+        _ => None,
+    }
+}
+
+fn main() -> ExitCode {
+    let Some((seed, limit, calls)) = options() else {
+        eprintln!("{USAGE}");
+        return ExitCode::from(2);
+    };
+    let out = BufWriter::with_capacity(1 << 16, io::stdout().lock());
+    match Generator::new(seed, limit, calls, out).write_all() {
+        Ok(()) => ExitCode::SUCCESS,
+        Err(error) => {
+            eprintln!("{error}");
+            ExitCode::from(2)
+        }
+    }
+}

@@ -1,0 +1,168 @@
+//! Lines that are no calls, lines that hardly are, and comments.
+
+use std::io::{self, Write};
+
+use crate::journal::{MAX_LINE, NAMES};
+use crate::Generator;
+
+const UNKNOWN: [&str; 6] = ["", "x", "?", "0", "entry", "openclose"];
+const NO_NUMBERS: [&str; 18] = [
+    "",
+    "-1",
+    "+1",
+    "-0",
+    "0x10",
+    "1.0",
+    "1,000",
+    "1e3",
+    "one",
+    "18446744073709551616",
+    "18446744073709551625",
+    "20000000000000000000",
+    "99999999999999999999",
+    "100000000000000000000",
+    "340282366920938463463374607431768211456",
+    "\u{661}",
+    "1\t",
+    "1\r",
+];
+
+impl<W: Write> Generator<W> {
+    pub fn comment(&mut self) -> io::Result<()> {
+        match self.random.below(60) {
+            0 => {
+                let length = self
+                    .random
+                    .pick(&[MAX_LINE, MAX_LINE + 1, 2 * MAX_LINE + 7, 200_000]);
+                self.line(&vec![b'#'; length])
+            }
+            1..=20 => self.line(b""),
+            21..=30 => self.line(b"#"),
+            31..=40 => self.line(b"#\0\r\t\xff\xfe open 2 0 0"),
+            41..=50 => self.line(b"#close 100000 10 1152 0 "),
+            _ => self.line(b"# a remark"),
+        }
+        .map(|_| ())
+    }
+
+    /// The words of a plausible call, if any call may be written.
+    fn good_words(&mut self) -> Option<Vec<String>> {
+        let known: Vec<&str> = NAMES
+            .into_iter()
+            .filter(|name| self.may_call(name))
+            .collect();
+        if known.is_empty() {
+            return None;
+        }
+        let name = self.random.pick(&known);
+        let arguments = self.arguments(name);
+        let numbers = arguments.iter().map(u64::to_string);
+        Some(std::iter::once(name.to_string()).chain(numbers).collect())
+    }
+
+    /// A plausible call with something wrong in its writing. It is no call, except that leading
+    /// zeros are right, and that a line of 65,536 bytes is not too long.
+    pub fn malformed_line(&mut self) -> io::Result<()> {
+        let Some(mut words) = self.good_words() else {
+            return Ok(());
+        };
+        let argument = 1 + self.random.place(words.len() - 1);
+        let mut line = match self.random.below(16) {
+            0 => {
+                words[0] = self.unknown_name(&words[0]);
+                words.join(" ")
+            }
+            1 => {
+                words.push(self.random.pick(&["0", "1", "32"]).to_string());
+                words.join(" ")
+            }
+            2 => {
+                words.remove(argument);
+                words.join(" ")
+            }
+            3 => {
+                words.truncate(argument);
+                words.join(" ")
+            }
+            4 => words.join("  "),
+            5 => format!("{} ", words.join(" ")),
+            6 => format!(" {}", words.join(" ")),
+            7 => words.join("\t"),
+            8 => format!("{}\r", words.join(" ")),
+            9..=11 => {
+                words[argument] = self.random.pick(&NO_NUMBERS).to_string();
+                words.join(" ")
+            }
+            12 => {
+                words[argument].insert_str(0, &"0".repeat(self.random.place(60)));
+                words.join(" ")
+            }
+            13 => self
+                .random
+                .pick(&[
+                    " ",
+                    "  ",
+                    " #",
+                    " # a remark",
+                    "\r",
+                    "\t",
+                    "\0",
+                    "-",
+                    "? line 1",
+                ])
+                .to_string(),
+            14 => self.stray_byte(&words.join(" ")),
+            _ => words.join(self.random.pick(&["", ",", " \t", "\0", "\u{a0}"])),
+        };
+        if self.random.below(70) == 0 {
+            line = self.long_line(words);
+        }
+        // With few calls listed, a slip must not write one that isn't.
+        let name = line.split(' ').next().unwrap_or_default();
+        if NAMES.contains(&name) && !self.may_call(name) {
+            return Ok(());
+        }
+        self.line(line.as_bytes()).map(|_| ())
+    }
+
+    /// A name that is no call's, mostly one that looks like it.
+    fn unknown_name(&mut self, name: &str) -> String {
+        let ending = self.random.pick(&["s", "\0", ",", "1", "_", "\u{e9}"]);
+        match self.random.below(6) {
+            0 => name.to_uppercase(),
+            1 => name[..1].to_uppercase() + &name[1..],
+            2 => name[..name.len() - 1].to_string(),
+            3 => name[1..].to_string(),
+            4 => name.to_string() + ending,
+            _ => self.random.pick(&UNKNOWN).to_string(),
+        }
+    }
+
+    /// A line with a byte put in somewhere, which is no line feed.
+    fn stray_byte(&mut self, line: &str) -> String {
+        let at = self.random.place(line.len() + 1);
+        let stray = self.random.pick(&[
+            " ", "\t", "\0", "\r", "-", "a", "Z", "/", ":", ".", "#", "\u{b}", "\u{7f}",
+        ]);
+        format!("{}{stray}{}", &line[..at], &line[at..])
+    }
+
+    /// A line of just 65,536 bytes, or of more.
+    fn long_line(&mut self, words: Vec<String>) -> String {
+        let mut line = words.join(" ");
+        let length = self.random.pick(&[
+            MAX_LINE - 1,
+            MAX_LINE,
+            MAX_LINE,
+            MAX_LINE + 1,
+            MAX_LINE + 1,
+            140_000,
+        ]);
+        let padding = length.saturating_sub(line.len());
+        match (self.random.below(4), line.rfind(' ')) {
+            (0..=2, Some(space)) => line.insert_str(space + 1, &"0".repeat(padding)),
+            _ => line.push_str(&" 1".repeat(padding.div_ceil(2))),
+        }
+        line
+    }
+}

@@ -1,0 +1,224 @@
+//! Playing calls on one book and writing their answers (the journal format, "Lines out").
+
+use crate::book::{Book, Refusal, LINE_WORDS};
+use crate::journal::Call;
+
+/// A book and the lists that are lent to its calls.
+pub struct Player {
+    pub book: Book,
+    /// How many lines of each kind were reported; kinds begin with 1.
+    pub kinds: [u64; 5],
+    lent: Vec<u64>,
+}
+
+impl Player {
+    /// Before the first Open the book is the one that a refused Open returns.
+    pub fn new() -> Self {
+        Player {
+            book: Book::of_refused_open(),
+            kinds: [0; 5],
+            lent: Vec::new(),
+        }
+    }
+
+    /// Plays a call, writes its answer and returns the answer number.
+    pub fn play(&mut self, call: Call, out: &mut Vec<u8>) -> Refusal {
+        let book = &mut self.book;
+        match call {
+            Call::Open {
+                first_day,
+                terms,
+                closed,
+            } => {
+                let opened = Book::open(first_day, terms, closed);
+                let answer =
+                    put_results(out, opened.as_ref().map(|_| []).map_err(|&number| number));
+                *book = opened.unwrap_or_else(|_| Book::of_refused_open());
+                answer
+            }
+            Call::Enter {
+                member,
+                other,
+                side,
+                quantity,
+                amount,
+                day,
+            } => {
+                let entered = book.enter(member, other, side, quantity, amount, day);
+                put_results(out, entered.map(|(leg, obligation)| [leg, obligation]))
+            }
+            Call::Withdraw { leg, member } => {
+                put_results(out, book.withdraw(leg, member).map(|()| []))
+            }
+            Call::Cancel { obligation, member } => {
+                put_results(out, book.cancel(obligation, member).map(|moved| [moved]))
+            }
+            Call::Deliver {
+                obligation,
+                quantity,
+            } => put_results(out, book.deliver(obligation, quantity).map(|cash| [cash])),
+            Call::Offer {
+                obligation,
+                supplier,
+                quantity,
+                price,
+            } => put_results(
+                out,
+                book.offer(obligation, supplier, quantity, price)
+                    .map(|()| []),
+            ),
+            Call::Close {
+                price,
+                rate,
+                words,
+                fill,
+            } => self.close(price, rate, words, fill, out),
+            Call::Month {
+                collected,
+                places,
+                fill,
+            } => self.month(collected, places, fill, out),
+            Call::Status { obligation } => put_results(out, book.status(obligation)),
+            Call::Account { member } => put_account(out, book.account(member)),
+            Call::Look { member } => put_results(out, book.look(member).map(|found| [found])),
+        }
+    }
+
+    fn lend(&mut self, length: usize, fill: u64) {
+        self.lent.clear();
+        self.lent.resize(length, fill);
+    }
+
+    fn close(
+        &mut self,
+        price: u64,
+        rate: u64,
+        words: usize,
+        fill: u64,
+        out: &mut Vec<u8>,
+    ) -> Refusal {
+        self.lend(words, fill);
+        let closed = self.book.close(price, rate, &mut self.lent);
+        let count = closed.unwrap_or(0);
+        let answer = put_results(out, closed.map(|count| [count as u64]));
+        let (lines, rest) = self.lent.split_at(count * LINE_WORDS);
+        for line in lines.chunks(LINE_WORDS) {
+            self.kinds[line[0] as usize] += 1;
+            out.push(b' ');
+            put_words(out, line);
+            out.push(b'\n');
+        }
+        let kept = rest.iter().filter(|&&word| word == fill).count();
+        out.extend_from_slice(b"  kept");
+        put_words(out, &[kept as u64]);
+        out.push(b'\n');
+        answer
+    }
+
+    fn month(&mut self, collected: &[u64], places: usize, fill: u64, out: &mut Vec<u8>) -> Refusal {
+        self.lend(places, fill);
+        let answer = self
+            .book
+            .month(collected, &mut self.lent)
+            .err()
+            .unwrap_or(0);
+        put_number(out, answer.into());
+        put_words(out, &self.lent);
+        out.push(b'\n');
+        answer
+    }
+}
+
+/// Writes a line of the answer number and the results, which are zeros for a refused call.
+fn put_results<const N: usize>(out: &mut Vec<u8>, results: Result<[u64; N], Refusal>) -> Refusal {
+    let (answer, words) = match results {
+        Ok(words) => (0, words),
+        Err(number) => (number, [0; N]),
+    };
+    put_number(out, answer.into());
+    put_words(out, &words);
+    out.push(b'\n');
+    answer
+}
+
+fn put_account(out: &mut Vec<u8>, account: Result<i64, Refusal>) -> Refusal {
+    let answer = account.err().unwrap_or(0);
+    let cents = account.unwrap_or(0);
+    put_number(out, answer.into());
+    out.extend_from_slice(if cents < 0 { b" -" } else { b" " });
+    put_number(out, cents.unsigned_abs());
+    out.push(b'\n');
+    answer
+}
+
+/// Writes each word with a space before it.
+fn put_words(out: &mut Vec<u8>, words: &[u64]) {
+    for &word in words {
+        out.push(b' ');
+        put_number(out, word);
+    }
+}
+
+/// Writes a number in base ten.
+pub fn put_number(out: &mut Vec<u8>, mut number: u64) {
+    let mut digits = [0; 20];
+    let mut start = digits.len();
+    loop {
+        start -= 1;
+        digits[start] = b'0' + (number % 10) as u8;
+        number /= 10;
+        if number == 0 {
+            break;
+        }
+    }
+    out.extend_from_slice(&digits[start..]);
+}
+
+#[cfg(test)]
+mod tests {
+    use super::*;
+    use crate::journal::{parse, CallSet};
+
+    fn answers(journal: &str) -> String {
+        let mut player = Player::new();
+        let (mut numbers, mut out) = (Vec::new(), Vec::new());
+        for line in journal.lines() {
+            let call = parse(line.as_bytes(), &CallSet::all(), &mut numbers);
+            player.play(call.expect("a call"), &mut out);
+        }
+        String::from_utf8(out).expect("plain ASCII")
+    }
+
+    #[test]
+    fn each_call_accepted() {
+        let journal =
+            "open 2 1 1 9\nenter 0 1 0 3 1000 2\nenter 1 0 1 3 1000 2\nenter 1 0 1 3 1000 2\n\
+            withdraw 2 1\ncancel 0 0\ndeliver 0 1\nclose 100000 100 1160 9\nstatus 0\naccount 0\n\
+            account 1\naccount 2\nlook 0\nlook 1\n";
+        let expected = "0\n0 0 0\n0 1 1\n0 2 0\n0\n0 0\n0 333\n0 1\n  1 0 2 20 0 0\n  kept 1154\n\
+            0 3 1 0 0 0 2\n0 -20\n0 20\n0 0\n0 1\n0 0\n";
+        assert_eq!(answers(journal), expected);
+    }
+
+    #[test]
+    fn each_call_refused() {
+        let journal = "enter 0 0 0 1 1 2\nwithdraw 0 0\ncancel 0 0\ndeliver 0 0\noffer 0 0 1 1\n\
+            close 1 1 3 0\nmonth 1 5 2 8\nmonth 0 0 8\nstatus 0\naccount 32\nlook 32\nopen 2 2 0\n";
+        let expected =
+            "1 0 0\n13\n13 0\n2 0\n13\n5 0\n  kept 3\n5 8 8\n5\n13 0 0 0 0 0 0\n1 0\n1 0\n1\n";
+        assert_eq!(answers(journal), expected);
+    }
+
+    #[test]
+    fn a_refused_open_ends_the_book_before_it() {
+        let journal = "open 9 1 0\nenter 0 1 0 3 1000 9\nopen 9 1 1 9\nenter 0 1 0 3 1000 2\n";
+        assert_eq!(answers(journal), "0\n0 0 0\n11\n0 0 0\n");
+    }
+
+    #[test]
+    fn numbers() {
+        let mut out = Vec::new();
+        put_words(&mut out, &[0, 9, 10, u64::MAX]);
+        assert_eq!(out, b" 0 9 10 18446744073709551615");
+    }
+}
