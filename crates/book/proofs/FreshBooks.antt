@@ -21,7 +21,7 @@ use Rattle.ledger.specs.declared.Terms.{Terms}
 use Rattle.ledger.proofs.Valid.{new-valid}
 use Rattle.book.specs.declared.Book.{Book}
 use Rattle.book.specs.declared.Opened.{Opened}
-use Rattle.book.specs.Refusals.{answer, outcome}
+use Rattle.refusals.specs.Refusals.{answer, outcome}
 use Rattle.book.specs.Book.{mostPerDay, Valid}
 use Rattle.book.specs.Open.{termsOf, freshBook, refusedBook, openRefusals, opened}
 

@@ -33,11 +33,13 @@ use Rattle.ledger.specs.Ledger.{obligationAt, withObligation, withNew, withOffe
 use Rattle.ledger.proofs.Keeping.{new-sound, delivering-sound, wishing-sound, delivering-day, delivering-less, wishing-day, wishing-less}
 use Rattle.ledger.proofs.Valid.{valid-changed, valid-more, valid-offer}
 use Rattle.book.specs.declared.Book.{Book}
-use Rattle.book.specs.Refusals.{Refusal, refuse, answer, outcome, outside, noMember}
+use Rattle.refusals.specs.Refusals.{Refusal, refuse, answer, outcome, outside, noMember}
 use Rattle.book.specs.Book.{withLegs, withLedger, ageOf, mostPerDay, Valid}
-use Rattle.book.specs.Instructing.{badParties, badDay, enterRefusals, newLeg, obligationOf, enteredAlone, enteredWith, enteredBy, enterRefused, enter, withdrawRefusals, withdraw, doneRefused, cancelRefusals, cancelRefusalsOf, cancelRefused, cancel, deliverRefusals, deliverRefusalsOf, deliverRefused, deliver}
-use Rattle.book.specs.Buying.{offerRefusals, offerRefusalsIn, offerRefusalsOf, offer}
-use Rattle.book.proofs.Refusals.{passed, outcome-case}
+use Rattle.book.specs.Instructing.{newLeg, obligationOf, enteredAlone, enteredWith, enteredBy, enterRefused, enter, withdrawRefusals, withdraw, doneRefused, cancelRefusals, cancelRefused, cancel, deliverRefusals, deliverRefused, deliver}
+use Rattle.refusals.specs.Calls.{badParties, badDay, enterRefusals, cancelRefusalsOf, deliverRefusalsOf}
+use Rattle.book.specs.Buying.{offerRefusals, offer}
+use Rattle.refusals.specs.Calls.{offerRefusalsIn, offerRefusalsOf}
+use Rattle.refusals.proofs.Refusals.{passed, outcome-case}
 
 -- ---- parts of a book that change
 module _ (b : Book) (v : Valid b) where

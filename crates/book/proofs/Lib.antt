@@ -1,6 +1,4 @@
 -- Laws of the book: Refusals says what an answer number means.
-pub mod Refusals
 pub mod FreshBooks
 pub mod Kept
 pub mod Answers
-pub mod Offering

@@ -25,28 +25,11 @@ use Rattle.book.specs.declared.Entered.{Entered}
 use Rattle.book.specs.declared.Done.{Done}
 use Rattle.book.specs.declared.Cancelled.{Cancelled}
 use Rattle.book.specs.declared.Delivered.{Delivered}
-use Rattle.book.specs.Refusals.{Refusal, refuse, answer, outcome, outside, noMember}
+use Rattle.refusals.specs.Calls.{badFirst, badParties, badDay, enterRefusals, cancelRefusalsOf, deliverRefusalsOf, inBuyIn, offerRefusalsIn, offerRefusalsOf}
+use Rattle.refusals.specs.Refusals.{Refusal, refuse, answer, outcome, outside, noMember}
 use Rattle.book.specs.Book.{withLegs, withLedger}
 
 -- ---- Enter
--- 01, Refusals, 1, of Enter
-abbrev pub badParties : ℕ → ℕ → ℕ → Bool
-badParties member other side = noMember member || (noMember other || (eqb member other || ltb 1 side))
-
--- 01, Refusals, 11, of Enter: J no clearing day, before today or above 60,000
-abbrev pub badDay : ClosedDays → Day → Day → Bool
-badDay closed today j = not (clearing (listed closed) j) || (ltb (j .0) (today .0) || ltb 60000 (j .0))
-
--- 01, Refusals, of Enter: in a book with these closed days, this day and this many legs
-unfoldable pub enterRefusals : ClosedDays → Day → ℕ → Leg → List Refusal
-enterRefusals closed today legs new =
-    refuse 1 (badParties (new .member) (new .other) (new .side))
-    ∷ refuse 2 (outside 1 mostQuantity (new .quantity))
-    ∷ refuse 3 (outside 1 mostAmount (new .amount))
-    ∷ refuse 11 (badDay closed today (new .day))
-    ∷ refuse 12 (leb 128 legs)
-    ∷ []
-
 -- the leg of an instruction, which waits
 abbrev pub newLeg : ℕ → ℕ → ℕ → ℕ → ℕ → Day → Leg
 newLeg member other side q a j = record {
@@ -121,13 +104,6 @@ withdraw b n member =
     (doneRefused b)
 
 -- ---- Cancel
--- 01, Refusals, of Cancel on the obligation that was fetched
-unfoldable pub cancelRefusalsOf : Obligation → ℕ → List Refusal
-cancelRefusalsOf o member =
-    refuse 14 (not (isParty o member) || hasWished o member)
-    ∷ refuse 15 (eqb (o .parts .outstanding) 0)
-    ∷ []
-
 -- 01, Refusals, of Cancel: o is the obligation with the number
 unfoldable pub cancelRefusals : Book → ℕ → ℕ → Obligation → List Refusal
 cancelRefusals b n member o = refuse 1 (noMember member) ∷ refuse 13 (not (ltb n (b .ledger .count))) ∷ cancelRefusalsOf o member
@@ -145,13 +121,6 @@ cancel b n member =
     (cancelRefused b)
 
 -- ---- Deliver
--- 01, Refusals, of Deliver on the obligation that was fetched
-unfoldable pub deliverRefusalsOf : Day → Obligation → ℕ → List Refusal
-deliverRefusalsOf today o q =
-    refuse 15 (ltb (o .parts .outstanding) q)
-    ∷ refuse 16 (ltb (today .0) (o .day .0))
-    ∷ []
-
 -- 01, Refusals, of Deliver: o is the obligation with the number
 unfoldable pub deliverRefusals : Book → ℕ → ℕ → Obligation → List Refusal
 deliverRefusals b n q o =

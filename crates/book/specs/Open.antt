@@ -13,7 +13,8 @@ use Rattle.ledger.specs.declared.Terms.{Terms}
 use Rattle.ledger.specs.Ledger.{newLedger}
 use Rattle.book.specs.declared.Book.{Book}
 use Rattle.book.specs.declared.Opened.{Opened}
-use Rattle.book.specs.Refusals.{Refusal, refuse, answer, outcome}
+use Rattle.refusals.specs.Calls.{badFirst}
+use Rattle.refusals.specs.Refusals.{Refusal, refuse, answer, outcome}
 
 -- 01, Open: terms 0 and 1 (002, chapters 1 and 2)
 abbrev pub termsOf : ℕ → Terms
@@ -45,7 +46,7 @@ unfoldable pub openRefusals : Day → List ℕ → ℕ → List Refusal
 openRefusals first closed terms =
     refuse 1 (ltb 1 terms)
     ∷ refuse 4 (closedRefused closed)
-    ∷ refuse 11 (ltb lastDay (first .0) || not (clearing (listed (closedDays closed)) first))
+    ∷ refuse 11 (badFirst (closedDays closed) first)
     ∷ []
 
 -- 01, Open

@@ -14,7 +14,7 @@ use Rattle.book.specs.declared.Book.{Book}
 use Rattle.book.specs.declared.Shown.{Shown}
 use Rattle.book.specs.declared.Balance.{Balance}
 use Rattle.book.specs.declared.Looked.{Looked}
-use Rattle.book.specs.Refusals.{Refusal, refuse, answer, outcome, noMember}
+use Rattle.refusals.specs.Refusals.{Refusal, refuse, answer, outcome, noMember}
 
 -- a refused Status
 abbrev pub statusRefused : Book → ℕ → Shown

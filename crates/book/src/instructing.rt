@@ -4,8 +4,6 @@ use crate::Cancelled;
 use crate::Delivered;
 use crate::Done;
 use crate::Entered;
-use crate::limits;
-use calendar::ClosedDays;
 use calendar::Day;
 use instructions::FetchedLeg;
 use instructions::Fit;
@@ -15,23 +13,12 @@ use ledger::Fetched;
 use ledger::Obligation;
 ghost use mathlib.Core.Path.{_≡_};
 ghost use Prim.Native.Nat.{_≤_, _<_};
-ghost use Rattle.book.specs.Refusals.{answer};
+ghost use Rattle.refusals.specs.Refusals.{answer};
 ghost use Rattle.book.specs.Book.{Valid};
-ghost use Rattle.book.specs.Instructing.{badDay, enterRefusals, obligationOf, enteredWith, enter, withdraw};
-ghost use Rattle.book.specs.Instructing.{cancelRefusalsOf, cancel, deliverRefusalsOf, deliver};
-
-// Whether a settlement day is refused: no clearing day, before today or above 60,000.
-fn is_bad_day(closed: ClosedDays, today: Day, day: Day) -> bool
-    ensures { λ r. ⌜ r ≡ badDay closed today day ⌝ }
-{
-    if closed.is_clearing(day) {} else {
-        return true;
-    }
-    if day.0 < today.0 {
-        return true;
-    }
-    60_000 < day.0
-}
+ghost use Rattle.book.specs.Instructing.{obligationOf, enteredWith, enter, withdraw};
+ghost use Rattle.refusals.specs.Calls.{badDay, enterRefusals};
+ghost use Rattle.book.specs.Instructing.{cancel, deliver};
+ghost use Rattle.refusals.specs.Calls.{cancelRefusalsOf, deliverRefusalsOf};
 
 // The obligation of a new leg and the one that it matches.
 fn obligation_of(new: Leg, old: Leg) -> Obligation
@@ -47,61 +34,6 @@ fn obligation_of(new: Leg, old: Leg) -> Obligation
         seller.amount,
         day,
     )
-}
-
-// The answer number of an instruction, in a book with these closed days, this day and this many legs.
-fn enter_answer(closed: ClosedDays, today: Day, legs: usize, leg: Leg) -> u64
-    ensures { λ r. ⌜ r ≡ answer (enterRefusals closed today legs leg) ⌝ }
-{
-    if limits::are_bad_parties(leg.member, leg.other, leg.side) {
-        return 1;
-    }
-    if limits::is_outside(1, 100_000, leg.quantity) {
-        return 2;
-    }
-    if limits::is_outside(1, 20_000_000_000, leg.amount) {
-        return 3;
-    }
-    let day = leg.day;
-    if is_bad_day(closed, today, day) {
-        return 11;
-    }
-    if 128 <= legs {
-        return 12;
-    }
-    0
-}
-
-// The answer number of a wish to cancel a fetched obligation.
-fn cancel_answer(found: Obligation, member: u64) -> u64
-    ensures { λ r. ⌜ r ≡ answer (cancelRefusalsOf found member) ⌝ }
-{
-    if found.is_party(member) {} else {
-        return 14;
-    }
-    if found.has_wished(member) {
-        return 14;
-    }
-    let parts = found.parts;
-    if parts.outstanding == 0 {
-        return 15;
-    }
-    0
-}
-
-// The answer number of a delivery of a fetched obligation.
-fn deliver_answer(today: Day, found: Obligation, quantity: u64) -> u64
-    ensures { λ r. ⌜ r ≡ answer (deliverRefusalsOf today found quantity) ⌝ }
-{
-    let parts = found.parts;
-    if parts.outstanding < quantity {
-        return 15;
-    }
-    let day = found.day;
-    if today.0 < day.0 {
-        return 16;
-    }
-    0
 }
 
 impl Book {
@@ -154,7 +86,7 @@ impl Book {
         };
         let closed = self.closed;
         let legs = self.legs;
-        let number = enter_answer(closed, self.today, legs.count, new);
+        let number = refusals::enter_answer(closed, self.today, legs.count, new);
         if number != 0 {
             return Entered {
                 answer: number,
@@ -235,7 +167,7 @@ impl Book {
                 book: self,
             };
         };
-        let number = cancel_answer(found, member);
+        let number = refusals::cancel_answer(found, member);
         if number != 0 {
             return Cancelled {
                 answer: number,
@@ -257,7 +189,7 @@ impl Book {
         ensures { λ r. ⌜ r ≡ deliver self obligation quantity ⌝ }
         ensures { λ r. ⌜ Valid (r .book) ⌝ }
     {
-        if limits::is_outside(1, 100_000, quantity) {
+        if refusals::is_outside(1, 100_000, quantity) {
             return Delivered {
                 answer: 2,
                 cash: 0,
@@ -272,7 +204,7 @@ impl Book {
                 book: self,
             };
         };
-        let number = deliver_answer(self.today, found, quantity);
+        let number = refusals::deliver_answer(self.today, found, quantity);
         if number != 0 {
             return Delivered {
                 answer: number,

@@ -9,7 +9,6 @@ use ledger::Terms;
 
 mod buying;
 mod instructing;
-mod limits;
 mod opening;
 mod reading;
 

@@ -34,20 +34,6 @@ fn terms_of(terms: u64) -> Terms
     }
 }
 
-// Whether a first day is refused: after the last day of the calendar, or no clearing day.
-fn is_bad_first(closed: ClosedDays, first: Day) -> bool
-    ensures { λ r. ⌜ r ≡ (ltb lastDay (first .0) || not (clearing (listed closed) first)) ⌝ }
-{
-    if 65_535 < first.0 {
-        return true;
-    }
-    if closed.is_clearing(first) {
-        false
-    } else {
-        true
-    }
-}
-
 impl Book {
     // A fresh book.
     fn fresh(first: Day, closed: ClosedDays, terms: u64) -> Book
@@ -89,7 +75,7 @@ impl Book {
             };
         }
         let days = ClosedDays::listed(closed);
-        if is_bad_first(days, first) {
+        if refusals::is_bad_first(days, first) {
             return Opened {
                 answer: 11,
                 book: Book::refused(),

@@ -20,10 +20,12 @@ use Rattle.instructions.specs.Match.{fits, firstFit, lowestFit}
 use Rattle.ledger.specs.Obligations.{cashOf}
 use Rattle.ledger.specs.Obligations.{settled as settledSoFar}
 use Rattle.ledger.specs.Obligations.{delivering as deliveringFrom}
-use Rattle.book.specs.Refusals.{answer}
+use Rattle.refusals.specs.Refusals.{answer}
 use Rattle.book.specs.Book.{ageOf}
-use Rattle.book.specs.Instructing.{enterRefusals, obligationOf, enteredAlone, enteredWith, enter, deliverRefusals, deliverRefusalsOf, deliver}
-use Rattle.book.specs.Buying.{offerRefusals, offerRefusalsIn, offerRefusalsOf, offer}
+use Rattle.book.specs.Instructing.{obligationOf, enteredAlone, enteredWith, enter, deliverRefusals, deliver}
+use Rattle.refusals.specs.Calls.{enterRefusals, deliverRefusalsOf}
+use Rattle.book.specs.Buying.{offerRefusals, offer}
+use Rattle.refusals.specs.Calls.{offerRefusalsIn, offerRefusalsOf}
 use Rattle.examples.specs.Table.{table, boughtFrom, nthDay, dayNumber}
 
 -- the n-th clearing day is found by counting the clearing days up to it

@@ -7,7 +7,7 @@ use borrow.Author.Needs.{needs}
 use borrow.Author.Tests.{lt-ltb, le-ltb}
 use Rattle.book.specs.Reading.{account, accountRefused}
 use Rattle.book.proofs.Book.account.Statement.{statement}
-use Rattle.book.proofs.Refusals.{pass, stop, all-passed, refused-by, done-by}
+use Rattle.refusals.proofs.Refusals.{pass, stop, all-passed, refused-by, done-by}
 use Rattle.netting.proofs.Signed.{read-is}
 use Rattle.book.proofs.Book.account.Tie as tie
 

@@ -12,7 +12,7 @@ use Rattle.ledger.specs.declared.Obligation.{Obligation}
 use Rattle.book.proofs.Answers.{answered}
 use Rattle.book.proofs.Book.cancel.Statement.{statement}
 use Rattle.book.proofs.Kept.{cancel-valid}
-use Rattle.book.proofs.Refusals.{pass, stop, refused-by, refused-with, done-by}
+use Rattle.refusals.proofs.Refusals.{pass, stop, refused-by, refused-with, done-by}
 use Rattle.ledger.proofs.Valid.{There, found-there, absent-not, there-sound}
 use Rattle.book.proofs.Book.cancel.Tie as tie
 

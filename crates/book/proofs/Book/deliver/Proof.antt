@@ -4,7 +4,8 @@ use mathlib.Core.Path.{refl, sym, ap, _∙_}
 use borrow.Author.Needs.{needs}
 use borrow.Author.Tests.{ltb-true, ltb-false}
 use Rattle.book.specs.Book.{withLedger}
-use Rattle.book.specs.Instructing.{deliver, deliverRefusals, deliverRefusalsOf, deliverRefused}
+use Rattle.book.specs.Instructing.{deliver, deliverRefusals, deliverRefused}
+use Rattle.refusals.specs.Calls.{deliverRefusalsOf}
 use Rattle.book.specs.declared.Delivered.{Delivered}
 use Rattle.ledger.specs.Ledger.{withObligation}
 use Rattle.ledger.specs.Obligations.{delivering, cashOf, Takes}
@@ -12,7 +13,7 @@ use Rattle.ledger.specs.declared.Obligation.{Obligation}
 use Rattle.book.proofs.Answers.{answered}
 use Rattle.book.proofs.Book.deliver.Statement.{statement}
 use Rattle.book.proofs.Kept.{deliver-valid}
-use Rattle.book.proofs.Refusals.{pass, stop, passed, refused-by, refused-with, done-by}
+use Rattle.refusals.proofs.Refusals.{pass, stop, passed, refused-by, refused-with, done-by}
 use Rattle.ledger.proofs.Valid.{There, found-there, absent-not, there-sound}
 use Rattle.book.proofs.Book.deliver.Tie as tie
 

@@ -7,7 +7,7 @@ use Rattle.book.specs.declared.Entered.{Entered}
 use Rattle.book.proofs.Answers.{answered}
 use Rattle.book.proofs.Book.enter.Statement.{statement}
 use Rattle.book.proofs.Kept.{Good, good, matched-room, enter-valid}
-use Rattle.book.proofs.Refusals.{refused-with, done-by}
+use Rattle.refusals.proofs.Refusals.{refused-with, done-by}
 use Rattle.book.proofs.Book.enter.Tie as tie
 
 fine : (c : tie.Else1) → Good (c .before .before .before .before .args .self) (c .before .before .before .before .pre) (newLeg (c .before .before .before .before .args .member) (c .before .before .before .before .args .other) (c .before .before .before .before .args .side) (c .before .before .before .before .args .quantity) (c .before .before .before .before .args .amount) (c .before .before .before .before .args .day))

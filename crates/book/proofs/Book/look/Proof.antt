@@ -5,7 +5,7 @@ use mathlib.Core.Path.{refl, sym, _∙_, _≡_}
 use borrow.Author.Needs.{needs}
 use borrow.Author.Tests.{lt-ltb, le-ltb}
 use Rattle.book.proofs.Book.look.Statement.{statement}
-use Rattle.book.proofs.Refusals.{pass, stop, all-passed}
+use Rattle.refusals.proofs.Refusals.{pass, stop, all-passed}
 use Rattle.book.proofs.Book.look.Tie as tie
 
 apart : _≡_ {A = ℕ} 1 0 → ⊥

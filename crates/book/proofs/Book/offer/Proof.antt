@@ -2,16 +2,17 @@
 use mathlib.Core.Path.{_≡_, refl, sym, ap, _∙_}
 use borrow.Author.Needs.{needs}
 use Rattle.book.specs.Book.{withLedger, ageOf}
-use Rattle.book.specs.Buying.{offer, offerRefusals, offerRefusalsOf}
+use Rattle.book.specs.Buying.{offer, offerRefusals}
+use Rattle.refusals.specs.Calls.{offerRefusalsOf}
 use Rattle.book.specs.Instructing.{doneRefused}
-use Rattle.book.specs.Refusals.{answer}
+use Rattle.refusals.specs.Refusals.{answer}
 use Rattle.book.specs.declared.Done.{Done}
 use Rattle.calendar.specs.declared.ClearingDays.{ClearingDays}
 use Rattle.book.proofs.Answers.{answered}
 use Rattle.book.proofs.Book.offer.Statement.{statement}
 use Rattle.book.proofs.Kept.{offer-valid}
-use Rattle.book.proofs.Offering.{input-first, input-passed, input-price, offers-few}
-use Rattle.book.proofs.Refusals.{pass, stop, refused-by, refused-with, done-by}
+use Rattle.refusals.proofs.Offering.{input-first, input-passed, input-price, offers-few}
+use Rattle.refusals.proofs.Refusals.{pass, stop, refused-by, refused-with, done-by}
 use Rattle.ledger.proofs.Valid.{There, found-there, absent-not, there-sound}
 use Rattle.book.proofs.Book.offer.Tie as tie
 

@@ -9,7 +9,7 @@ use Rattle.book.specs.declared.Opened.{Opened}
 use Rattle.calendar.specs.declared.ClosedDays.{ClosedDays}
 use Rattle.book.proofs.Book.open.Statement.{statement}
 use Rattle.book.proofs.FreshBooks.{refused-valid, closed-short, fresh-valid, first-good}
-use Rattle.book.proofs.Refusals.{pass, stop, all-passed, refused-by, done-by}
+use Rattle.refusals.proofs.Refusals.{pass, stop, all-passed, refused-by, done-by}
 use Rattle.book.proofs.Book.open.Tie as tie
 
 abbrev opened-with : ℕ → Book → Opened

@@ -4,7 +4,7 @@ use borrow.Author.Needs.{needs}
 use Rattle.book.specs.Reading.{status, statusRefused}
 use Rattle.ledger.specs.declared.Obligation.{Obligation}
 use Rattle.book.proofs.Book.status.Statement.{statement}
-use Rattle.book.proofs.Refusals.{pass, stop, all-passed, refused-by, done-by}
+use Rattle.refusals.proofs.Refusals.{pass, stop, all-passed, refused-by, done-by}
 use Rattle.ledger.proofs.Valid.{found-there, absent-not}
 use Rattle.book.proofs.Book.status.Tie as tie
 

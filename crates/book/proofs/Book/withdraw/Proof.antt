@@ -11,7 +11,7 @@ use Rattle.instructions.specs.declared.Legs.{Legs}
 use Rattle.book.proofs.Answers.{answered}
 use Rattle.book.proofs.Book.withdraw.Statement.{statement}
 use Rattle.book.proofs.Kept.{withdraw-valid}
-use Rattle.book.proofs.Refusals.{pass, stop, all-passed, refused-by, done-by}
+use Rattle.refusals.proofs.Refusals.{pass, stop, all-passed, refused-by, done-by}
 use Rattle.instructions.proofs.Fetching.{LegThere, leg-there, leg-absent}
 use Rattle.book.proofs.Book.withdraw.Tie as tie
 

@@ -1,0 +1,128 @@
+-- What an answer number means: it is n exactly where n's condition holds and no smaller number's does.
+use Prim.Native.Nat.{ℕ, suc, _≤_, _<_}
+use native.Mathlib.Omega.{arith}
+use mathlib.Core.Path.{_≡_, refl, sym, ap, _∙_}
+use mathlib.Core.Bool.{Bool, true, false}
+use mathlib.Core.Logic.{_↔_}
+use mathlib.Core.List.{List, [], _∷_, List·Memᴰ, List·Memᴰ·head, List·Memᴰ·tail}
+use lib.Dec.{eqb}
+use borrow.Author.Tests.{eqb-true, eqb-false, eq-eqb, ne-eqb}
+use Rattle.basics.specs.Choice.{pick}
+use Rattle.basics.specs.Lists.{Every, Sorted}
+use Rattle.basics.specs.Lists.Every.{nobody, also}
+use Rattle.basics.specs.Lists.Sorted.{empty, ahead}
+use Rattle.basics.proofs.Cases.{pick-case}
+use Rattle.basics.proofs.Everywhere.{every-map, every-member}
+use Rattle.refusals.specs.Refusals.{Refusal, refuse, answer, outcome}
+
+-- ---- reading a list of refusals from the front
+-- a condition that does not hold is passed
+pub pass : (n : ℕ) {t : Bool} (rs : List Refusal) → t ≡ false → answer (refuse n t ∷ rs) ≡ answer rs
+unfolding answer
+pass n rs e = rw e
+
+-- the first that holds is given
+pub stop : (n : ℕ) {t : Bool} (rs : List Refusal) → t ≡ true → answer (refuse n t ∷ rs) ≡ n
+unfolding answer
+stop n rs e = rw e
+
+pub all-passed : answer [] ≡ 0
+unfolding answer
+all-passed = refl
+
+-- a call that is done
+pub done-by : {A : Type 0} (rs : List Refusal) (done : A) (refused : ℕ → A) → answer rs ≡ 0 → done ≡ outcome (answer rs) done refused
+done-by rs done refused e = rw e
+
+-- a call that is refused by k
+pub refused-by : {A : Type 0} (k : ℕ) (rs : List Refusal) (done : A) (refused : ℕ → A) → answer rs ≡ k → eqb k 0 ≡ false → refused k ≡ outcome (answer rs) done refused
+refused-by k rs done refused e f = rw (e, f)
+
+-- a call that is refused by a number that was worked out
+pub refused-with : {A : Type 0} (n : ℕ) (rs : List Refusal) (done : A) (refused : ℕ → A) → answer rs ≡ n → (n ≡ 0 → ⊥) → refused n ≡ outcome (answer rs) done refused
+refused-with n rs done refused e z = refused-by n rs done refused e (ne-eqb n 0 z)
+
+-- a refusal that an accepted call passed: its condition does not hold, nor does any behind it
+pub passed : (n : ℕ) (t : Bool) (rs : List Refusal) → answer (refuse n t ∷ rs) ≡ 0 → eqb n 0 ≡ false → (t ≡ false) × (answer rs ≡ 0)
+unfolding answer
+passed n t rs = by t
+  where
+    by : (u : Bool) → pick u n (answer rs) ≡ 0 → eqb n 0 ≡ false → (u ≡ false) × (answer rs ≡ 0)
+    by true e f = absurd (eqb-false n 0 f e)
+    by false e f = (refl, e)
+
+-- what holds of a refused call and of one that is done holds of its outcome
+pub outcome-case : {A : Type 0} (P : A → Type 0) (rs : List Refusal) (done : A) (refused : ℕ → A) →
+    ((n : ℕ) → P (refused n)) → (answer rs ≡ 0 → P done) → P (outcome (answer rs) done refused)
+outcome-case P rs done refused f g = pick-case P (eqb (answer rs) 0) done (refused (answer rs)) (λ e. g (eqb-true (answer rs) 0 e)) (λ e. f (answer rs))
+
+-- ---- the law
+-- refusals as the rules print them: rising numbers, none of them 0
+pub record Printed (rs : List Refusal) : Type 0 where
+  pub rising : Sorted (λ r s. r .number < s .number) rs
+  pub some : Every (λ r. 0 < r .number) rs
+
+-- n's condition holds, and the condition of no smaller number does
+pub record Smallest (rs : List Refusal) (n : ℕ) : Type 0 where
+  pub it : Refusal
+  pub listed : List·Memᴰ it rs
+  pub number : it .number ≡ n
+  pub holds : it .holds ≡ true
+  pub least : Every (λ r. r .number < n → r .holds ≡ false) rs
+
+-- no condition holds
+abbrev pub NoneHolds : List Refusal → Type 0
+NoneHolds rs = Every (λ r. r .holds ≡ false) rs
+
+-- the answer is 0 exactly where no condition holds
+none-holds : (rs : List Refusal) → Every (λ r. 0 < r .number) rs → answer rs ≡ 0 → NoneHolds rs
+unfolding answer
+none-holds [] s e = nobody
+none-holds (r ∷ rs) (also p s) e = by (r .holds) refl e (none-holds rs s)
+  where
+    by : (t : Bool) → r .holds ≡ t → pick t (r .number) (answer rs) ≡ 0 → (answer rs ≡ 0 → NoneHolds rs) → NoneHolds (r ∷ rs)
+    by true t q f = absurd (omega arith)
+    by false t q f = also t (f q)
+
+none-given : (rs : List Refusal) → NoneHolds rs → answer rs ≡ 0
+unfolding answer
+none-given [] h = refl
+none-given (r ∷ rs) (also p h) = rw p (none-given rs h)
+
+pub answer-zero : (rs : List Refusal) → Printed rs → (answer rs ≡ 0) ↔ NoneHolds rs
+answer-zero rs p = (none-holds rs (p .some), none-given rs)
+
+abbrev Rising : List Refusal → Type 0
+Rising rs = Sorted (λ r s. r .number < s .number) rs
+
+smallest-given : (rs : List Refusal) (n : ℕ) → Rising rs → (it : Refusal) → List·Memᴰ it rs → it .number ≡ n → it .holds ≡ true →
+    Every (λ r. r .number < n → r .holds ≡ false) rs → answer rs ≡ n
+unfolding answer
+smallest-given (r ∷ rs) n (ahead a s) it (List·Memᴰ·head e) en eh l = rw (sym (ap (λ (x : Refusal). x .holds) e) ∙ eh) (sym (ap (λ (x : Refusal). x .number) e) ∙ en)
+smallest-given (r ∷ rs) n (ahead a s) it (List·Memᴰ·tail m) en eh (also l ls) =
+    let h : r .number < it .number = every-member (λ (x : Refusal). r .number < x .number) a m in
+    rw (l (omega arith)) (smallest-given rs n s it m en eh ls)
+
+given-smallest : (rs : List Refusal) (n : ℕ) → Rising rs → answer rs ≡ n → (n ≡ 0 → ⊥) → Smallest rs n
+unfolding answer
+given-smallest [] n s e z = absurd (z (sym e))
+given-smallest (r ∷ rs) n (ahead a s) e z = by (r .holds) refl e (λ q. given-smallest rs n s q z)
+  where
+    by : (t : Bool) → r .holds ≡ t → pick t (r .number) (answer rs) ≡ n → (answer rs ≡ n → Smallest rs n) → Smallest (r ∷ rs) n
+    by true t q f = record {
+      it = r;
+      listed = List·Memᴰ·head refl;
+      number = q;
+      holds = t;
+      least = also (λ (l : r .number < n). absurd (omega arith)) (every-map (λ (x : Refusal) (b : r .number < x .number) (l : x .number < n). absurd (omega arith)) a);
+    }
+    by false t q f =
+        let g = f q in
+        record { it = g .it; listed = List·Memᴰ·tail (g .listed); number = g .number; holds = g .holds; least = also (λ l. t) (g .least) }
+
+-- the answer is n exactly where n's condition holds and no smaller number's does
+pub answer-number : (rs : List Refusal) (n : ℕ) → Printed rs → (n ≡ 0 → ⊥) → (answer rs ≡ n) ↔ Smallest rs n
+answer-number rs n p z = (
+  λ e. given-smallest rs n (p .rising) e z,
+  λ h. smallest-given rs n (p .rising) (h .it) (h .listed) (h .number) (h .holds) (h .least),
+)
