@@ -3,6 +3,7 @@ pub mod Cases
 pub mod Counts
 pub mod Everywhere
 pub mod Places
+pub mod Stores
 pub mod Sums
 pub mod Tables
 pub mod TableSums

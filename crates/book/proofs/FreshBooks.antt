@@ -1,29 +1,23 @@
 -- Open gives a valid book, accepted or refused.
-use Prim.Native.Nat.{ℕ, zero, suc, _*_, _≤_, _<_}
+use Prim.Native.Nat.{ℕ, zero, suc, _≤_, _<_}
 use native.Mathlib.Omega.{arith}
-use mathlib.Core.Path.{_≡_, refl, sym, ap, subst, _∙_}
+use mathlib.Core.Path.{_≡_, refl, sym, ap}
 use mathlib.Core.Bool.{Bool, true, false, _||_, _&&_, not}
-use mathlib.Core.List.{List, [], _∷_, map}
+use mathlib.Core.List.{List, [], map}
 use lib.Dec.{ltb, leb, eqb}
-use lib.IntN.{ℤ, pos, natAbs}
+use lib.IntN.{pos, natAbs}
 use lib.ListN.{length, getD, replicate, length-map}
-use borrow.Author.Tests.{ltb-true, ltb-false, leb-true, leb-false}
-use Rattle.basics.specs.Choice.{pick}
+use borrow.Author.Tests.{ltb-false, leb-true}
 use Rattle.basics.proofs.Cases.{never, pick-case}
 use Rattle.basics.proofs.Places.{padded-length}
 use Rattle.calendar.specs.declared.Day.{Day}
-use Rattle.calendar.specs.declared.ClosedDays.{ClosedDays}
 use Rattle.calendar.specs.Closed.{day, lastDay, mostClosed, risesFrom, closedRefused, closedDays, listed, among}
 use Rattle.calendar.specs.Days.{clearing}
-use Rattle.instructions.specs.Legs.{waiting, noLegs}
 use Rattle.instructions.proofs.Keeping.{none-valid, none-waiting}
 use Rattle.ledger.specs.declared.Terms.{Terms}
 use Rattle.ledger.proofs.Valid.{new-valid}
-use Rattle.book.specs.declared.Book.{Book}
-use Rattle.book.specs.declared.Opened.{Opened}
-use Rattle.refusals.specs.Refusals.{answer, outcome}
-use Rattle.book.specs.Book.{mostPerDay, Valid}
-use Rattle.book.specs.Open.{termsOf, freshBook, refusedBook, openRefusals, opened}
+use Rattle.book.specs.Book.{Valid}
+use Rattle.book.specs.Open.{termsOf, freshBook, refusedBook}
 
 zeros : (n m : ℕ) → getD (replicate n (pos 0)) m (pos 0) ≡ pos 0
 zeros zero m = refl

@@ -1,44 +1,38 @@
 -- Every call keeps a valid book valid.
-use Prim.Native.Nat.{ℕ, zero, suc, _+_, _-_, _*_, _≤_, _<_}
+use Prim.Native.Nat.{ℕ, _+_, _-_, _*_, _≤_, _<_}
 use native.Mathlib.Omega.{arith}
-use mathlib.Core.Path.{_≡_, refl, sym, ap, subst, _∙_}
-use mathlib.Core.Bool.{Bool, true, false, _||_, _&&_, not}
-use mathlib.Core.List.{List, [], _∷_}
-use lib.Dec.{ltb, leb, eqb}
-use lib.IntN.{pos, natAbs}
-use lib.ListN.{length, getD, set}
-use borrow.Author.Tests.{ltb-true, ltb-false, leb-true, leb-false, eqb-true, eqb-false, not-true, not-false}
+use mathlib.Core.Path.{_≡_, refl, sym, ap, _∙_}
+use mathlib.Core.Bool.{Bool, true, false}
+use lib.Dec.{eqb}
+use borrow.Author.Tests.{ltb-true, ltb-false, leb-false, eqb-false, not-false}
 use Rattle.basics.specs.Choice.{pick}
-use Rattle.basics.proofs.Cases.{never, pick-case, or-false}
+use Rattle.basics.proofs.Cases.{pick-case, or-false}
 use Rattle.basics.proofs.Places.{set-case}
 use Rattle.calendar.specs.declared.Day.{Day}
-use Rattle.calendar.specs.declared.ClosedDays.{ClosedDays}
 use Rattle.calendar.specs.Closed.{listed}
 use Rattle.calendar.specs.Days.{clearing, clearingWithin, ageAt}
 use Rattle.amounts.specs.Amounts.{mostQuantity, mostAmount, mostOfferPrice}
-use Rattle.instructions.specs.declared.LegState.the-variants.{Waiting, Withdrawn, Matched}
+use Rattle.instructions.specs.declared.LegState.the-variants.{Withdrawn, Matched}
 use Rattle.instructions.specs.declared.Leg.{Leg}
 use Rattle.instructions.specs.declared.Legs.{Legs}
 use Rattle.instructions.specs.declared.Fit.{Fit}
 use Rattle.instructions.specs.declared.Fit.the-variants.{With, Nobody}
-use Rattle.instructions.specs.Legs.{isWaiting, noLeg, inState, entered, legAt, withState, withLeg, waitingOne, waiting, SoundLeg, ValidLegs}
-use Rattle.instructions.specs.Match.{delivering, receiving, membersCross, sameBusiness, fits, lowestFit}
+use Rattle.instructions.specs.Legs.{isWaiting, inState, legAt, withState, withLeg, waitingOne, waiting, SoundLeg, ValidLegs}
+use Rattle.instructions.specs.Match.{fits, lowestFit}
 use Rattle.instructions.proofs.Keeping.{waiting-with, valid-with, leg-sound, waiting-state, valid-state}
 use Rattle.instructions.proofs.Matching.{found-below, fits-all}
 use Rattle.ledger.specs.declared.Obligation.{Obligation}
 use Rattle.ledger.specs.declared.Ledger.{Ledger}
-use Rattle.ledger.specs.Obligations.{noObligation, newObligation, wishing, Sound, Takes}
-use Rattle.ledger.specs.Obligations.{delivering as deliveringFrom}
-use Rattle.ledger.specs.Ledger.{obligationAt, withObligation, withNew, withOfferFor, SoundOffer, ValidLedger}
-use Rattle.ledger.proofs.Keeping.{new-sound, delivering-sound, wishing-sound, delivering-day, delivering-less, wishing-day, wishing-less}
+use Rattle.ledger.specs.Obligations.{noObligation, newObligation, wishing, Sound, delivering as deliveringFrom}
+use Rattle.ledger.specs.Ledger.{obligationAt, withObligation, withNew, ValidLedger}
+use Rattle.ledger.proofs.Keeping.{new-sound, delivering-sound, wishing-sound, delivering-later, wishing-later}
 use Rattle.ledger.proofs.Valid.{valid-changed, valid-more, valid-offer}
 use Rattle.book.specs.declared.Book.{Book}
-use Rattle.refusals.specs.Refusals.{Refusal, refuse, answer, outcome, outside, noMember}
-use Rattle.book.specs.Book.{withLegs, withLedger, ageOf, mostPerDay, Valid}
+use Rattle.refusals.specs.Refusals.{answer, outside}
+use Rattle.book.specs.Book.{withLegs, withLedger, ageOf, Valid}
 use Rattle.book.specs.Instructing.{newLeg, obligationOf, enteredAlone, enteredWith, enteredBy, enterRefused, enter, withdrawRefusals, withdraw, doneRefused, cancelRefusals, cancelRefused, cancel, deliverRefusals, deliverRefused, deliver}
-use Rattle.refusals.specs.Calls.{badParties, badDay, enterRefusals, cancelRefusalsOf, deliverRefusalsOf}
+use Rattle.refusals.specs.Calls.{enterRefusals, deliverRefusalsOf, offerRefusalsIn, offerRefusalsOf}
 use Rattle.book.specs.Buying.{offerRefusals, offer}
-use Rattle.refusals.specs.Calls.{offerRefusalsIn, offerRefusalsOf}
 use Rattle.refusals.proofs.Refusals.{passed, outcome-case}
 
 -- ---- parts of a book that change
@@ -110,7 +104,7 @@ module _ (b : Book) (v : Valid b) where
       outcome-case (λ r. Valid (r .book)) _ _ (cancelRefused b) (λ k. v) (λ e.
       let o = obligationAt (b .ledger) n in
       let h = ltb-true n (b .ledger .count) (not-false _ (passed 13 _ _ (passed 1 _ _ e refl .1) refl .0)) in
-      changed-valid n (wishing member o) h (wishing-sound o member (v .ledger-valid .sound n h)) (wishing-day o member) (wishing-less o member))
+      changed-valid n (wishing member o) h (wishing-sound o member (v .ledger-valid .sound n h)) (wishing-later o member .day) (wishing-later o member .less))
 
   -- ---- Deliver
   pub deliver-valid : (n q : ℕ) → Valid (deliver b n q .book)
@@ -121,7 +115,7 @@ module _ (b : Book) (v : Valid b) where
       let p = passed 13 _ _ (passed 2 _ _ e refl .1) refl in
       let h = ltb-true n (b .ledger .count) (not-false _ (p .0)) in
       let t = ltb-false (o .parts .outstanding) q (passed 15 _ _ (p .1) refl .0) in
-      changed-valid n (deliveringFrom q o) h (delivering-sound o q (record { sound = v .ledger-valid .sound n h; enough = t })) (delivering-day o q) (delivering-less o q))
+      changed-valid n (deliveringFrom q o) h (delivering-sound o q (record { sound = v .ledger-valid .sound n h; enough = t })) (delivering-later o q .day) (delivering-later o q .less))
 
   -- ---- Offer
   within : (low high x : ℕ) → outside low high x ≡ false → (low ≤ x) × (x ≤ high)

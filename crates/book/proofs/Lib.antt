@@ -1,4 +1,6 @@
 -- Laws of the book: Refusals says what an answer number means.
 pub mod FreshBooks
 pub mod Kept
+pub mod Ended
+pub mod Paid
 pub mod Answers

@@ -1,20 +1,16 @@
 -- The book, and what holds of every book that Open and the calls return.
 use Prim.Native.Nat.{ℕ, _+_, _*_, _≤_, _<_}
 use mathlib.Core.Path.{_≡_}
-use mathlib.Core.Bool.{Bool, true, false}
+use mathlib.Core.Bool.{true}
 use lib.IntN.{pos, natAbs}
 use lib.ListN.{length, getD}
-use Rattle.calendar.specs.declared.Day.{Day}
-use Rattle.calendar.specs.declared.ClearingDays.{ClearingDays}
-use Rattle.calendar.specs.declared.ClosedDays.{ClosedDays}
 use Rattle.calendar.specs.Closed.{lastDay, mostClosed, listed}
-use Rattle.calendar.specs.Days.{clearingDays, clearing, ageAt}
+use Rattle.calendar.specs.Days.{clearing, ageAt}
 use Rattle.instructions.specs.declared.Legs.{Legs}
-use Rattle.instructions.specs.Legs.{noLegs, waiting, ValidLegs}
-use Rattle.ledger.specs.declared.Terms.{Terms}
+use Rattle.instructions.specs.Legs.{waiting, ValidLegs}
 use Rattle.ledger.specs.declared.Obligation.{Obligation}
 use Rattle.ledger.specs.declared.Ledger.{Ledger}
-use Rattle.ledger.specs.Ledger.{newLedger, obligationAt, ValidLedger}
+use Rattle.ledger.specs.Ledger.{obligationAt, ValidLedger}
 use Rattle.book.specs.declared.Book.{Book}
 
 -- the book with other legs, or another ledger, or both

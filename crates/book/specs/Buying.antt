@@ -1,17 +1,14 @@
 -- Buy-in: Offer.
 use Prim.Native.Nat.{ℕ}
-use mathlib.Core.Bool.{Bool, true, false, _||_, _&&_, not}
-use mathlib.Core.List.{List, [], _∷_}
-use lib.Dec.{ltb, leb, eqb}
-use Rattle.amounts.specs.Amounts.{mostQuantity, mostOfferPrice, aboveCap}
-use Rattle.calendar.specs.declared.Day.{Day}
-use Rattle.ledger.specs.declared.Terms.{Terms}
+use mathlib.Core.Bool.{not}
+use mathlib.Core.List.{List, _∷_, _++_}
+use lib.Dec.{ltb}
 use Rattle.ledger.specs.declared.Obligation.{Obligation}
 use Rattle.ledger.specs.Ledger.{obligationAt, withOfferFor}
 use Rattle.book.specs.declared.Book.{Book}
 use Rattle.book.specs.declared.Done.{Done}
-use Rattle.refusals.specs.Calls.{badFirst, badParties, badDay, enterRefusals, cancelRefusalsOf, deliverRefusalsOf, inBuyIn, offerRefusalsIn, offerRefusalsOf}
-use Rattle.refusals.specs.Refusals.{Refusal, refuse, answer, outcome, outside}
+use Rattle.refusals.specs.Calls.{offerRefusalsIn, offerRefusalsOf}
+use Rattle.refusals.specs.Refusals.{Refusal, refuse, answer, outcome}
 use Rattle.book.specs.Book.{withLedger, ageOf}
 use Rattle.book.specs.Instructing.{doneRefused}
 
@@ -19,8 +16,8 @@ use Rattle.book.specs.Instructing.{doneRefused}
 unfoldable pub offerRefusals : Book → ℕ → ℕ → ℕ → ℕ → Obligation → List Refusal
 offerRefusals b n supplier q price o =
     offerRefusalsIn supplier q price
-    (refuse 13 (not (ltb n (b .ledger .count)))
-    ∷ offerRefusalsOf (b .terms) (b .today) (ageOf b o) (b .ledger .offers .count) o price)
+    ++ refuse 13 (not (ltb n (b .ledger .count)))
+    ∷ offerRefusalsOf (b .terms) (b .today) (ageOf b o) (b .ledger .offers .count) o price
 
 -- 01, Buy-in, Offer
 unfoldable pub offer : Book → ℕ → ℕ → ℕ → ℕ → Done

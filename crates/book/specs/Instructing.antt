@@ -1,31 +1,25 @@
 -- Instructions: Enter, Withdraw, Cancel, Deliver.
 use Prim.Native.Nat.{ℕ, _+_}
-use mathlib.Core.Bool.{Bool, true, false, _||_, not}
+use mathlib.Core.Bool.{_||_, not}
 use mathlib.Core.List.{List, [], _∷_}
-use lib.Dec.{ltb, leb, eqb}
-use Rattle.basics.specs.Choice.{pick}
+use lib.Dec.{ltb, eqb}
 use Rattle.calendar.specs.declared.Day.{Day}
-use Rattle.calendar.specs.declared.ClosedDays.{ClosedDays}
-use Rattle.calendar.specs.Closed.{listed}
-use Rattle.calendar.specs.Days.{clearing}
-use Rattle.amounts.specs.Amounts.{mostQuantity, mostAmount}
+use Rattle.amounts.specs.Amounts.{mostQuantity}
 use Rattle.instructions.specs.declared.Leg.{Leg}
-use Rattle.instructions.specs.declared.Legs.{Legs}
 use Rattle.instructions.specs.declared.LegState.the-variants.{Waiting, Withdrawn, Matched}
 use Rattle.instructions.specs.declared.Fit.{Fit}
 use Rattle.instructions.specs.declared.Fit.the-variants.{With, Nobody}
 use Rattle.instructions.specs.Legs.{isWaiting, inState, legAt, withState, withLeg}
 use Rattle.instructions.specs.Match.{delivering, receiving, lowestFit}
 use Rattle.ledger.specs.declared.Obligation.{Obligation}
-use Rattle.ledger.specs.Obligations.{newObligation, cashOf, isParty, hasWished, wishing, movedByWish}
-use Rattle.ledger.specs.Obligations.{delivering as deliveringFrom}
+use Rattle.ledger.specs.Obligations.{newObligation, cashOf, wishing, movedByWish, delivering as deliveringFrom}
 use Rattle.ledger.specs.Ledger.{obligationAt, withObligation, withNew}
 use Rattle.book.specs.declared.Book.{Book}
 use Rattle.book.specs.declared.Entered.{Entered}
 use Rattle.book.specs.declared.Done.{Done}
 use Rattle.book.specs.declared.Cancelled.{Cancelled}
 use Rattle.book.specs.declared.Delivered.{Delivered}
-use Rattle.refusals.specs.Calls.{badFirst, badParties, badDay, enterRefusals, cancelRefusalsOf, deliverRefusalsOf, inBuyIn, offerRefusalsIn, offerRefusalsOf}
+use Rattle.refusals.specs.Calls.{enterRefusals, cancelRefusalsOf, deliverRefusalsOf}
 use Rattle.refusals.specs.Refusals.{Refusal, refuse, answer, outcome, outside, noMember}
 use Rattle.book.specs.Book.{withLegs, withLedger}
 

@@ -1,13 +1,13 @@
 -- Open.
 use Prim.Native.Nat.{ℕ}
-use mathlib.Core.Bool.{Bool, true, false, _||_, not}
+use mathlib.Core.Bool.{false}
 use mathlib.Core.List.{List, [], _∷_}
 use lib.Dec.{ltb, eqb}
 use Rattle.basics.specs.Choice.{pick}
 use Rattle.calendar.specs.declared.Day.{Day}
 use Rattle.calendar.specs.declared.ClosedDays.{ClosedDays}
-use Rattle.calendar.specs.Closed.{day, lastDay, closedRefused, closedDays, listed}
-use Rattle.calendar.specs.Days.{clearingDays, clearing}
+use Rattle.calendar.specs.Closed.{day, closedRefused, closedDays}
+use Rattle.calendar.specs.Days.{clearingDays}
 use Rattle.instructions.specs.Legs.{noLegs}
 use Rattle.ledger.specs.declared.Terms.{Terms}
 use Rattle.ledger.specs.Ledger.{newLedger}

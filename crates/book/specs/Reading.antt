@@ -2,9 +2,9 @@
 use Prim.Native.Nat.{ℕ, _+_, _<_}
 use mathlib.Core.Path.{_≡_}
 use mathlib.Core.Bool.{Bool, true, false, _&&_, not}
-use mathlib.Core.List.{List, [], _∷_}
+use mathlib.Core.List.{[], _∷_}
 use lib.Dec.{ltb, eqb}
-use lib.IntN.{ℤ, pos}
+use lib.IntN.{pos}
 use lib.ListN.{getD}
 use Rattle.calendar.specs.declared.Day.{Day}
 use Rattle.ledger.specs.declared.Obligation.{Obligation}
@@ -14,7 +14,7 @@ use Rattle.book.specs.declared.Book.{Book}
 use Rattle.book.specs.declared.Shown.{Shown}
 use Rattle.book.specs.declared.Balance.{Balance}
 use Rattle.book.specs.declared.Looked.{Looked}
-use Rattle.refusals.specs.Refusals.{Refusal, refuse, answer, outcome, noMember}
+use Rattle.refusals.specs.Refusals.{refuse, answer, outcome, noMember}
 
 -- a refused Status
 abbrev pub statusRefused : Book → ℕ → Shown

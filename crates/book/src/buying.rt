@@ -10,7 +10,7 @@ ghost use Rattle.amounts.specs.Amounts.{mostOfferPrice, mostClosePrice};
 ghost use Rattle.refusals.specs.Refusals.{answer};
 ghost use Rattle.book.specs.Book.{Valid};
 ghost use Rattle.book.specs.Buying.{offer};
-ghost use Rattle.refusals.specs.Calls.{inBuyIn, offerRefusalsIn, offerRefusalsOf};
+ghost use Rattle.refusals.specs.Calls.{offerRefusalsIn, offerRefusalsOf};
 
 impl Book {
     // Takes a supplier's offer for an obligation in its buy-in days.

@@ -8,8 +8,10 @@ use ledger::Parts;
 use ledger::Terms;
 
 mod buying;
+mod ending;
 mod instructing;
 mod opening;
+mod paying;
 mod reading;
 
 // The settlement-discipline book of one bond.
@@ -37,7 +39,7 @@ pub struct Entered {
     pub book: Book,
 }
 
-// The answer of Withdraw and of Offer.
+// The answer of Withdraw, of Offer and of Month.
 pub struct Done {
     pub answer: u64,
     pub book: Book,
@@ -54,6 +56,13 @@ pub struct Cancelled {
 pub struct Delivered {
     pub answer: u64,
     pub cash: u64,
+    pub book: Book,
+}
+
+// The answer of Close: the number of lines.
+pub struct Closed {
+    pub answer: u64,
+    pub count: usize,
     pub book: Book,
 }
 

@@ -9,7 +9,7 @@ use Rattle.basics.specs.Lists.Every.{nobody, also}
 use Rattle.calendar.specs.declared.Day.{Day}
 use Rattle.calendar.specs.declared.NextDay.the-variants.{At}
 use Rattle.calendar.specs.Closed.{day, lastDay, closedDays, listed, among}
-use Rattle.calendar.specs.Days.{clearingDays, clearing, clearingWithin, nthAfter, ageAt}
+use Rattle.calendar.specs.Days.{clearingDays, clearing, clearingWithin, nextWithin, nextAfter, nthAfter, ageAt}
 use Rattle.calendar.proofs.Ages.{age-nth}
 use Rattle.amounts.specs.Quotients.{rounded}
 use Rattle.amounts.specs.Amounts.{value, penalty, compensation, dueFor, cash, cashOfEach, charge, tolerance, amountsMatch, aboveCap}
@@ -17,7 +17,7 @@ use Rattle.netting.specs.Shares.{floorShare, remainder, centsLeft, comesBefore,
 use Rattle.offers.specs.Rank.{overtakes, insertedBy, rankedBy}
 use Rattle.offers.specs.BuyIn.{offersFor, withGiven, givenBy, given}
 use Rattle.instructions.specs.Match.{fits, firstFit, lowestFit}
-use Rattle.ledger.specs.Obligations.{cashOf}
+use Rattle.ledger.specs.Obligations.{cashOf, isDue, buyingIn, compensating}
 use Rattle.ledger.specs.Obligations.{settled as settledSoFar}
 use Rattle.ledger.specs.Obligations.{delivering as deliveringFrom}
 use Rattle.refusals.specs.Refusals.{answer}
@@ -25,7 +25,13 @@ use Rattle.book.specs.Book.{ageOf}
 use Rattle.book.specs.Instructing.{obligationOf, enteredAlone, enteredWith, enter, deliverRefusals, deliver}
 use Rattle.refusals.specs.Calls.{enterRefusals, deliverRefusalsOf}
 use Rattle.book.specs.Buying.{offerRefusals, offer}
-use Rattle.refusals.specs.Calls.{offerRefusalsIn, offerRefusalsOf}
+use Rattle.refusals.specs.Calls.{offerRefusalsIn, offerRefusalsOf, closeRefusalsIn, closeRefusals}
+use Rattle.book.specs.Closing.{close}
+use Rattle.closing.specs.Lines.{flat, then}
+use Rattle.closing.specs.Stages.{priced, penalised, noticeAt, boughtAll, buyInAt, compensated, compensatedAt}
+use Rattle.closing.specs.Stages.{boughtFrom as boughtOffer}
+use Rattle.closing.specs.Close.{stages, closedOne, rowsUpTo, linesUpTo, fined}
+use Rattle.payments.specs.Month.{overCollected, monthRefusals, paidOut}
 use Rattle.examples.specs.Table.{table, boughtFrom, nthDay, dayNumber}
 
 -- the n-th clearing day is found by counting the clearing days up to it
@@ -51,6 +57,6 @@ example-9 = λ i. dayNumber (thirtieth i) ++ dayNumber (thirty-fifth i) ++ dayNu
 
 -- in every row, what the definitions give is what 01 says
 pub settled : Every (λ r. r .computed ≡ r .settled) table
-unfolding total tableFrom countBelow rounded value penalty compensation dueFor cash cashOfEach charge tolerance amountsMatch aboveCap floorShare remainder centsLeft comesBefore rank extraCent share shares overtakes insertedBy rankedBy offersFor withGiven givenBy given boughtFrom among clearing clearingWithin ageAt closedDays listed answer ageOf enterRefusals obligationOf enteredAlone enteredWith enter deliverRefusals deliverRefusalsOf deliver offerRefusals offerRefusalsIn offerRefusalsOf offer fits firstFit lowestFit settledSoFar cashOf deliveringFrom
+unfolding total tableFrom countBelow rounded value penalty compensation dueFor cash cashOfEach charge tolerance amountsMatch aboveCap floorShare remainder centsLeft comesBefore rank extraCent share shares overtakes insertedBy rankedBy offersFor withGiven givenBy given boughtFrom among clearing clearingWithin ageAt closedDays listed answer ageOf enterRefusals obligationOf enteredAlone enteredWith enter deliverRefusals deliverRefusalsOf deliver offerRefusals offerRefusalsIn offerRefusalsOf offer fits firstFit lowestFit settledSoFar cashOf deliveringFrom close closeRefusals closeRefusalsIn nextAfter nextWithin flat then stages closedOne rowsUpTo linesUpTo fined priced penalised noticeAt boughtOffer boughtAll buyInAt compensated compensatedAt isDue buyingIn compensating paidOut monthRefusals overCollected
 settled =
-    also refl (also refl (also refl (also refl (also refl (also refl (also refl (also refl (also refl (also refl (also refl (also refl (also refl (also example-9 (also refl nobody))))))))))))))
+    also refl (also refl (also refl (also refl (also refl (also refl (also refl (also refl (also refl (also refl (also refl (also refl (also refl (also example-9 (also refl (also refl (also refl (also refl (also refl (also refl (also refl (also refl (also refl nobody))))))))))))))))))))))

@@ -2,6 +2,7 @@
 use Prim.Native.Nat.{ℕ, _+_, _-_}
 use mathlib.Core.Bool.{Bool, true, false}
 use mathlib.Core.List.{List, [], _∷_, _++_}
+use lib.IntN.{ℤ, pos, negsuc}
 use lib.ListN.{take, replicate}
 use Rattle.basics.specs.Choice.{pick}
 use Rattle.calendar.specs.declared.Day.{Day}
@@ -14,14 +15,18 @@ use Rattle.netting.specs.Shares.{shares}
 use Rattle.offers.specs.declared.Offer.{Offer}
 use Rattle.offers.specs.declared.Given.{Given}
 use Rattle.offers.specs.Rank.{ranked}
+use Rattle.offers.specs.Held.{noOffers}
 use Rattle.offers.specs.BuyIn.{given}
 use Rattle.instructions.specs.Legs.{noLegs, withLeg}
 use Rattle.ledger.specs.Ledger.{newLedger, withNew}
 use Rattle.book.specs.declared.Book.{Book}
 use Rattle.book.specs.Book.{withLegs, withLedger}
-use Rattle.book.specs.Open.{freshBook}
+use Rattle.book.specs.Open.{termsOf, freshBook}
 use Rattle.book.specs.Instructing.{newLeg, enter, deliver}
 use Rattle.book.specs.Buying.{offer}
+use Rattle.book.specs.Closing.{linesOf, close}
+use Rattle.book.specs.Month.{monthWords}
+use Rattle.closing.specs.Lines.{flat}
 
 pub record Row : Type 0 where
   pub item : ℕ
@@ -99,6 +104,37 @@ entersWith delivering receiving =
 abbrev pub cashAfter : ℕ → ℕ → ℕ → ℕ
 cashAfter quantity amount delivered = deliver (bookOn 2 quantity amount delivered 0) 0 1 .cash
 
+-- what a Close of a book with a list of 1,152 words answers: its number, how many lines, and their words
+abbrev pub closes : Book → ℕ → ℕ → List ℕ
+closes b price rate =
+    close b price rate 1152 .answer ∷ close b price rate 1152 .count ∷ flat (linesOf b price rate)
+
+-- example 10's book on the 31st clearing day after day 2: all of 10 units open, and the offers entered in their order
+abbrev pub offeredBook : Book
+offeredBook =
+    let first = offer (bookOn 45 10 1000000 0 100000) 0 1 7 101000 .book in
+    offer (offer first 0 2 5 100500 .book) 0 3 7 101000 .book
+
+-- a book with these accounts of the first four members, in which a Close came since the last Month
+abbrev pub bookWith : List ℤ → Book
+bookWith accounts = record {
+  closed = closedDays [];
+  terms = termsOf 0;
+  today = day 3;
+  «close_since» = true;
+  legs = noLegs;
+  ledger = record {
+    obligations = newLedger .obligations;
+    count = 0;
+    offers = noOffers;
+    accounts = accounts ++ replicate 28 (pos 0);
+  };
+}
+
+-- what the first three members are paid in a Month in which the fourth member pays 100 cents
+abbrev pub paysOut : List ℤ → List ℕ
+paysOut accounts = take 3 (monthWords (bookWith accounts) (0 ∷ 0 ∷ 0 ∷ 100 ∷ replicate 28 0) (replicate 32 7))
+
 -- 01, Settled examples
 abbrev pub table : List Row
 table =
@@ -133,4 +169,24 @@ table =
       computed = boughtFrom 1000000 10 0 (given 0 10 (ranked entered));
       settled = 2 ∷ 5 ∷ 2500 ∷ 1 ∷ 5 ∷ 5000 ∷ [];
     }
+    ∷ record { item = 1; computed = closes (bookOn 2 1000 1000000 0 0) 100000 10; settled = 0 ∷ 1 ∷ 1 ∷ 0 ∷ 1000 ∷ 1000 ∷ 0 ∷ 0 ∷ [] }
+    ∷ record { item = 2; computed = closes (bookOn 2 1 1000 0 0) 50000 10; settled = 0 ∷ 1 ∷ 1 ∷ 0 ∷ 1 ∷ 1 ∷ 0 ∷ 0 ∷ [] }
+    ∷ record { item = 2; computed = closes (bookOn 2 1 1000 0 0) 49999 10; settled = 0 ∷ 1 ∷ 1 ∷ 0 ∷ 1 ∷ 0 ∷ 0 ∷ 0 ∷ [] }
+    ∷ record {
+      item = 3;
+      computed = closes (bookOn 51 1 1000 0 0) 100005 0;
+      settled = 0 ∷ 2 ∷ 1 ∷ 0 ∷ 1 ∷ 0 ∷ 0 ∷ 0 ∷ 4 ∷ 0 ∷ 1 ∷ 10001 ∷ 0 ∷ 0 ∷ [];
+    }
+    ∷ record {
+      item = 3;
+      computed = closes (bookOn 51 1 1000 0 0) 100004 0;
+      settled = 0 ∷ 2 ∷ 1 ∷ 0 ∷ 1 ∷ 0 ∷ 0 ∷ 0 ∷ 4 ∷ 0 ∷ 1 ∷ 10000 ∷ 0 ∷ 0 ∷ [];
+    }
+    ∷ record {
+      item = 10;
+      computed = closes offeredBook 100000 0;
+      settled = 0 ∷ 3 ∷ 1 ∷ 0 ∷ 10 ∷ 0 ∷ 0 ∷ 0 ∷ 3 ∷ 0 ∷ 5 ∷ 2500 ∷ 2 ∷ 100500 ∷ 3 ∷ 0 ∷ 5 ∷ 5000 ∷ 1 ∷ 101000 ∷ [];
+    }
+    ∷ record { item = 8; computed = paysOut (pos 200 ∷ pos 100 ∷ pos 0 ∷ negsuc 299 ∷ []); settled = 67 ∷ 33 ∷ 0 ∷ [] }
+    ∷ record { item = 8; computed = paysOut (pos 100 ∷ pos 100 ∷ pos 100 ∷ negsuc 299 ∷ []); settled = 34 ∷ 33 ∷ 33 ∷ [] }
     ∷ []

@@ -1,16 +1,15 @@
--- What a delivery or a wish to cancel leaves of an obligation is sound again.
+-- What a change leaves of an obligation: it is sound again, with the same parties, quantity and day.
 use Prim.Native.Nat.{ℕ, _+_, _-_, _≤_, _<_}
 use native.Mathlib.Omega.{arith}
-use mathlib.Core.Path.{_≡_, refl}
-use mathlib.Core.Bool.{Bool, true, false}
+use mathlib.Core.Path.{_≡_, refl, _∙_}
+use mathlib.Core.Bool.{Bool, true}
 use lib.Dec.{eqb}
-use Rattle.basics.specs.Choice.{pick}
 use Rattle.basics.proofs.Cases.{pick-case}
 use Rattle.calendar.specs.declared.Day.{Day}
-use Rattle.amounts.specs.Amounts.{mostQuantity, mostAmount}
+use Rattle.amounts.specs.Amounts.{mostQuantity, mostAmount, mostClosePrice}
 use Rattle.ledger.specs.declared.Parts.{Parts}
 use Rattle.ledger.specs.declared.Obligation.{Obligation}
-use Rattle.ledger.specs.Obligations.{withParts, withWishes, newObligation, allParts, settled, delivering, withWish, bothWish, cancelling, wishing, Sound, Takes}
+use Rattle.ledger.specs.Obligations.{withParts, withWishes, withGracePrice, newObligation, allParts, settled, delivering, withWish, bothWish, cancelling, wishing, buyingIn, compensating, Sound, Takes}
 
 -- the parts of a sound obligation, as numbers that add up
 pub parts-whole : (o : Obligation) → Sound o →
@@ -90,31 +89,97 @@ unfolding wishing
 wishing-sound o m s =
     pick-case Sound (bothWish (withWish m o)) _ _ (λ e. cancelling-sound (withWish m o) (with-wish-sound o m s)) (λ e. with-wish-sound o m s)
 
--- ---- what a delivery and a wish leave as it was
-pub delivering-day : (o : Obligation) (q : ℕ) → delivering q o .day ≡ o .day
-unfolding delivering
-delivering-day o q = refl
+-- a buy-in
+pub buying-sound : (o : Obligation) (q : ℕ) → Takes o q → Sound (buyingIn q o)
+unfolding buyingIn allParts
+buying-sound o q t = with-parts-sound o _ (t .sound) (omega (arith, parts-whole o (t .sound), t .enough))
 
-pub delivering-less : (o : Obligation) (q : ℕ) → delivering q o .parts .outstanding ≤ o .parts .outstanding
-unfolding delivering
-delivering-less o q = omega arith
+-- a compensation
+pub compensating-sound : (o : Obligation) → Sound o → Sound (compensating o)
+unfolding compensating allParts
+compensating-sound o s = with-parts-sound o _ s (omega (arith, parts-whole o s))
 
--- a wish leaves the day, and no more is outstanding than before
-record Later (o r : Obligation) : Type 0 where
-  day : r .day ≡ o .day
-  less : r .parts .outstanding ≤ o .parts .outstanding
+-- a price kept for the cap
+pub priced-sound : (o : Obligation) (price : ℕ) → price ≤ mostClosePrice → Sound o → Sound (withGracePrice price o)
+priced-sound o price h s = record {
+  quantity-some = s .quantity-some;
+  quantity-most = s .quantity-most;
+  amount-some = s .amount-some;
+  amount-most = s .amount-most;
+  seller-below = s .seller-below;
+  buyer-below = s .buyer-below;
+  parties-apart = s .parties-apart;
+  day-most = s .day-most;
+  whole = s .whole;
+  price-most = h;
+}
+
+-- ---- what a change leaves as it was
+-- the parties, the quantity and the day stay, and no more is outstanding than before
+pub record Later (o r : Obligation) : Type 0 where
+  pub seller : r .seller ≡ o .seller
+  pub buyer : r .buyer ≡ o .buyer
+  pub quantity : r .quantity ≡ o .quantity
+  pub day : r .day ≡ o .day
+  pub less : r .parts .outstanding ≤ o .parts .outstanding
+
+pub later-same : (o : Obligation) → Later o o
+later-same o = record { seller = refl; buyer = refl; quantity = refl; day = refl; less = omega arith }
+
+pub later-then : (o p r : Obligation) → Later o p → Later p r → Later o r
+later-then o p r a b = record {
+  seller = b .seller ∙ a .seller;
+  buyer = b .buyer ∙ a .buyer;
+  quantity = b .quantity ∙ a .quantity;
+  day = b .day ∙ a .day;
+  less = omega (arith, a .less, b .less);
+}
+
+pub delivering-later : (o : Obligation) (q : ℕ) → Later o (delivering q o)
+unfolding delivering
+delivering-later o q = record { seller = refl; buyer = refl; quantity = refl; day = refl; less = omega arith }
+
+pub buying-later : (o : Obligation) (q : ℕ) → Later o (buyingIn q o)
+unfolding buyingIn
+buying-later o q = record { seller = refl; buyer = refl; quantity = refl; day = refl; less = omega arith }
+
+pub compensating-later : (o : Obligation) → Later o (compensating o)
+unfolding compensating
+compensating-later o = record { seller = refl; buyer = refl; quantity = refl; day = refl; less = omega arith }
+
+pub priced-later : (o : Obligation) (price : ℕ) → Later o (withGracePrice price o)
+priced-later o price = record { seller = refl; buyer = refl; quantity = refl; day = refl; less = omega arith }
+
+cancelling-later : (o : Obligation) → Later o (cancelling o)
+unfolding cancelling
+cancelling-later o = record { seller = refl; buyer = refl; quantity = refl; day = refl; less = omega arith }
 
 with-wish-later : (o : Obligation) (m : ℕ) → Later o (withWish m o)
 unfolding withWish
-with-wish-later o m = pick-case (Later o) (eqb (o .seller) m) _ _ (λ e. record { day = refl; less = omega arith }) (λ e. record { day = refl; less = omega arith })
+with-wish-later o m = pick-case (Later o) (eqb (o .seller) m) _ _
+    (λ e. record { seller = refl; buyer = refl; quantity = refl; day = refl; less = omega arith })
+    (λ e. record { seller = refl; buyer = refl; quantity = refl; day = refl; less = omega arith })
 
-wishing-later : (o : Obligation) (m : ℕ) → Later o (wishing m o)
-unfolding wishing cancelling
+pub wishing-later : (o : Obligation) (m : ℕ) → Later o (wishing m o)
+unfolding wishing
 wishing-later o m =
-    pick-case (Later o) (bothWish (withWish m o)) _ _ (λ e. record { day = with-wish-later o m .day; less = omega arith }) (λ e. with-wish-later o m)
+    pick-case (Later o) (bothWish (withWish m o)) _ _ (λ e. later-then o (withWish m o) _ (with-wish-later o m) (cancelling-later (withWish m o))) (λ e. with-wish-later o m)
 
-pub wishing-day : (o : Obligation) (m : ℕ) → wishing m o .day ≡ o .day
-wishing-day o m = wishing-later o m .day
+-- ---- what is outstanding
+pub outstanding-most : (o : Obligation) → Sound o → o .parts .outstanding ≤ mostQuantity
+outstanding-most o s = omega (arith, parts-whole o s, s .quantity-most)
 
-pub wishing-less : (o : Obligation) (m : ℕ) → wishing m o .parts .outstanding ≤ o .parts .outstanding
-wishing-less o m = wishing-later o m .less
+-- ---- buying in nothing, and one quantity after another
+pub buying-none : (o : Obligation) → buyingIn 0 o ≡ o
+unfolding buyingIn
+buying-none o =
+    let e : o .parts .«bought_in» + 0 ≡ o .parts .«bought_in» = omega arith in
+    let f : o .parts .outstanding - 0 ≡ o .parts .outstanding = omega arith in
+    rw (e, f)
+
+pub buying-more : (o : Obligation) (a b : ℕ) → buyingIn b (buyingIn a o) ≡ buyingIn (a + b) o
+unfolding buyingIn
+buying-more o a b =
+    let e : o .parts .«bought_in» + a + b ≡ o .parts .«bought_in» + (a + b) = omega arith in
+    let f : o .parts .outstanding - a - b ≡ o .parts .outstanding - (a + b) = omega arith in
+    rw (e, f)

@@ -1,28 +1,22 @@
 -- A new ledger is valid, and a changed obligation, a new one and a new offer leave a valid ledger.
-use Prim.Native.Nat.{ℕ, suc, _+_, _≤_, _<_}
+use Prim.Native.Nat.{ℕ, _+_, _<_}
 use native.Mathlib.Omega.{arith}
-use mathlib.Core.Path.{_≡_, refl, sym, ap, _∙_}
+use mathlib.Core.Path.{_≡_, refl, _∙_}
 use mathlib.Core.Bool.{Bool, true, false}
-use mathlib.Core.List.{List}
 use lib.Dec.{ltb}
-use lib.IntN.{pos}
-use lib.ListN.{length, getD, set, length-set}
-use borrow.Author.Tests.{ltb-true, ltb-false}
+use lib.ListN.{length-set}
+use borrow.Author.Tests.{ltb-true}
 use Rattle.basics.specs.Choice.{pick}
-use Rattle.basics.specs.Lists.{Every, Sorted}
 use Rattle.basics.specs.Lists.Every.{nobody}
 use Rattle.basics.specs.Lists.Sorted.{empty}
 use Rattle.basics.proofs.Everywhere.{every-map}
 use Rattle.basics.proofs.Places.{set-case}
 use Rattle.netting.specs.Accounts.{balance}
 use Rattle.offers.specs.declared.Offer.{Offer}
-use Rattle.offers.specs.Rank.{overtakes}
-use Rattle.offers.specs.Held.{listed, withOffer}
 use Rattle.offers.proofs.Holding.{size-with, every-with, listed-with}
 use Rattle.offers.proofs.Ranking.{inserted-in-rank}
 use Rattle.ledger.specs.declared.Obligation.{Obligation}
 use Rattle.ledger.specs.declared.Ledger.{Ledger}
-use Rattle.ledger.specs.declared.Fetched.{Fetched}
 use Rattle.ledger.specs.declared.Fetched.the-variants.{Found, Absent}
 use Rattle.ledger.specs.Obligations.{noObligation, Sound}
 use Rattle.ledger.specs.Ledger.{newLedger, obligationAt, fetched, withObligation, withNew, withOfferFor, SoundOffer, ValidLedger}

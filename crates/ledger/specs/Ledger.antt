@@ -10,7 +10,6 @@ use Rattle.basics.specs.Lists.{Every, Sorted}
 use Rattle.amounts.specs.Amounts.{mostQuantity, mostOfferPrice}
 use Rattle.netting.specs.Accounts.{balance}
 use Rattle.offers.specs.declared.Offer.{Offer}
-use Rattle.offers.specs.declared.Offers.{Offers}
 use Rattle.offers.specs.Rank.{overtakes}
 use Rattle.offers.specs.Held.{noOffers, listed, withOffer}
 use Rattle.ledger.specs.declared.Obligation.{Obligation}
@@ -46,6 +45,10 @@ withNew o l = record { obligations = set (l .obligations) (l .count) o; count = 
 -- 01, Buy-in, Offer: one offer more
 abbrev pub withOfferFor : Offer → Ledger → Ledger
 withOfferFor o l = record { obligations = l .obligations; count = l .count; offers = withOffer (l .offers) o; accounts = l .accounts }
+
+-- 01, Month: the accounts become zero
+abbrev pub clearedLedger : Ledger → Ledger
+clearedLedger l = record { obligations = l .obligations; count = l .count; offers = l .offers; accounts = replicate 32 (pos 0) }
 
 -- what holds of every offer of today, where there are n obligations
 pub record SoundOffer (n : ℕ) (x : Offer) : Type 0 where

@@ -2,11 +2,12 @@
 use Prim.Native.Nat.{ℕ, _+_, _-_, _≤_, _<_}
 use mathlib.Core.Path.{_≡_}
 use mathlib.Core.Bool.{Bool, true, false, _&&_, _||_}
-use lib.Dec.{eqb}
+use lib.Dec.{eqb, ltb, leb}
 use Rattle.basics.specs.Choice.{pick}
 use Rattle.calendar.specs.declared.Day.{Day}
 use Rattle.calendar.specs.Closed.{day}
 use Rattle.amounts.specs.Amounts.{mostQuantity, mostAmount, mostClosePrice, cash}
+use Rattle.ledger.specs.declared.Terms.{Terms}
 use Rattle.ledger.specs.declared.Parts.{Parts}
 use Rattle.ledger.specs.declared.Obligation.{Obligation}
 
@@ -53,6 +54,19 @@ withWishes s b o = record {
   «seller_wish» = s;
   «buyer_wish» = b;
   «grace_price» = o .«grace_price»;
+}
+
+abbrev pub withGracePrice : ℕ → Obligation → Obligation
+withGracePrice price o = record {
+  seller = o .seller;
+  buyer = o .buyer;
+  quantity = o .quantity;
+  amount = o .amount;
+  day = o .day;
+  parts = o .parts;
+  «seller_wish» = o .«seller_wish»;
+  «buyer_wish» = o .«buyer_wish»;
+  «grace_price» = price;
 }
 
 -- 01, Instructions: a new obligation, of which all is outstanding
@@ -129,6 +143,38 @@ wishing member o = pick (bothWish (withWish member o)) (cancelling (withWish mem
 -- 01, Cancel: the quantity moved, 0 for a first wish
 unfoldable pub movedByWish : ℕ → Obligation → ℕ
 movedByWish member o = pick (bothWish (withWish member o)) (o .parts .outstanding) 0
+
+-- 01, Buy-in: the ages above grace up to last
+abbrev pub inBuyIn : Terms → ℕ → Bool
+inBuyIn terms age = ltb (terms .grace .0) age && leb age (terms .last .0)
+
+-- 01, Close: J reached and something outstanding
+unfoldable pub isDue : Day → Obligation → Bool
+isDue today o = leb (o .day .0) (today .0) && ltb 0 (o .parts .outstanding)
+
+-- 01, Close, offers: q units move from outstanding to bought in
+unfoldable pub buyingIn : ℕ → Obligation → Obligation
+buyingIn q o =
+    let p = o .parts in
+    withParts (record {
+      delivered = p .delivered;
+      «bought_in» = p .«bought_in» + q;
+      compensated = p .compensated;
+      cancelled = p .cancelled;
+      outstanding = p .outstanding - q;
+    }) o
+
+-- 01, Close, compensation: all that is left moves to compensated
+unfoldable pub compensating : Obligation → Obligation
+compensating o =
+    let p = o .parts in
+    withParts (record {
+      delivered = p .delivered;
+      «bought_in» = p .«bought_in»;
+      compensated = p .compensated + p .outstanding;
+      cancelled = p .cancelled;
+      outstanding = 0;
+    }) o
 
 -- what holds of every obligation of a book
 pub record Sound (o : Obligation) : Type 0 where

@@ -7,8 +7,9 @@ use offers::Offers;
 ghost use mathlib.Core.Path.{_≡_};
 ghost use Prim.Native.Nat.{_+_, _≤_, _<_};
 ghost use Rattle.ledger.specs.Obligations.{newObligation, settled, cashOf, delivering, Sound, Takes};
+ghost use Rattle.ledger.specs.Obligations.{inBuyIn, isDue, buyingIn, compensating, withGracePrice};
 ghost use Rattle.ledger.specs.Obligations.{isParty, hasWished, withWish, bothWish, cancelling, wishing, movedByWish};
-ghost use Rattle.ledger.specs.Ledger.{newLedger, fetched, withObligation, withNew, withOfferFor};
+ghost use Rattle.ledger.specs.Ledger.{newLedger, fetched, withObligation, withNew, withOfferFor, clearedLedger};
 
 // The stages of an obligation's life: at which age notice is given, after which age the house buys in, and the age of
 // the last day.
@@ -77,6 +78,20 @@ const NO_OBLIGATION: Obligation = Obligation {
     grace_price: 0,
 };
 
+impl Terms {
+    // Whether an age is one at which the house buys in: above grace up to last.
+    pub fn buys_in(self, age: ClearingDays) -> bool
+        ensures { λ r. ⌜ r ≡ inBuyIn self (age .0) ⌝ }
+    {
+        let grace = self.grace;
+        let last = self.last;
+        if grace.0 < age.0 {
+            return age.0 <= last.0;
+        }
+        false
+    }
+}
+
 impl Obligation {
     // A new obligation, all of it outstanding.
     pub fn new(seller: u64, buyer: u64, quantity: u64, amount: u64, day: Day) -> Obligation
@@ -125,6 +140,53 @@ impl Obligation {
         parts.outstanding -= quantity;
         let mut next = self;
         next.parts = parts;
+        next
+    }
+
+    // Whether a Close takes it up: its day is reached and something is outstanding.
+    pub fn is_due(self, today: Day) -> bool
+        ensures { λ r. ⌜ r ≡ isDue today self ⌝ }
+    {
+        let day = self.day;
+        let parts = self.parts;
+        if day.0 <= today.0 {
+            return 0 < parts.outstanding;
+        }
+        false
+    }
+
+    // A quantity moves from outstanding to bought in.
+    pub fn buy_in(self, quantity: u64) -> Obligation
+        requires { ⌜ Takes self quantity ⌝ }
+        ensures { λ r. ⌜ r ≡ buyingIn quantity self ⌝ }
+    {
+        let mut parts = self.parts;
+        parts.bought_in += quantity;
+        parts.outstanding -= quantity;
+        let mut next = self;
+        next.parts = parts;
+        next
+    }
+
+    // All that is left moves to compensated.
+    pub fn compensate(self) -> Obligation
+        requires { ⌜ Sound self ⌝ }
+        ensures { λ r. ⌜ r ≡ compensating self ⌝ }
+    {
+        let mut parts = self.parts;
+        parts.compensated += parts.outstanding;
+        parts.outstanding = 0;
+        let mut next = self;
+        next.parts = parts;
+        next
+    }
+
+    // The price of the Close at age = grace is kept.
+    pub fn keep_price(self, price: u64) -> Obligation
+        ensures { λ r. ⌜ r ≡ withGracePrice price self ⌝ }
+    {
+        let mut next = self;
+        next.grace_price = price;
         next
     }
 
@@ -267,6 +329,15 @@ impl Ledger {
         let held = self.offers;
         let all = held.insert(next);
         self.offers = all;
+        self
+    }
+
+    // All accounts zero.
+    pub fn clear(mut self) -> Ledger
+        ensures { λ r. ⌜ r ≡ clearedLedger self ⌝ }
+    {
+        let zeros = [0i64; 32];
+        self.accounts = zeros;
         self
     }
 }

@@ -1,17 +1,17 @@
 -- What an answer number means: it is n exactly where n's condition holds and no smaller number's does.
-use Prim.Native.Nat.{ℕ, suc, _≤_, _<_}
+use Prim.Native.Nat.{ℕ, _<_}
 use native.Mathlib.Omega.{arith}
 use mathlib.Core.Path.{_≡_, refl, sym, ap, _∙_}
-use mathlib.Core.Bool.{Bool, true, false}
+use mathlib.Core.Bool.{Bool, true, false, _&&_}
 use mathlib.Core.Logic.{_↔_}
-use mathlib.Core.List.{List, [], _∷_, List·Memᴰ, List·Memᴰ·head, List·Memᴰ·tail}
-use lib.Dec.{eqb}
-use borrow.Author.Tests.{eqb-true, eqb-false, eq-eqb, ne-eqb}
+use mathlib.Core.List.{List, [], _∷_, _++_, List·Memᴰ, List·Memᴰ·head, List·Memᴰ·tail}
+use lib.Dec.{eqb, ltb}
+use borrow.Author.Tests.{eqb-true, eqb-false, ne-eqb, ltb-true}
 use Rattle.basics.specs.Choice.{pick}
 use Rattle.basics.specs.Lists.{Every, Sorted}
 use Rattle.basics.specs.Lists.Every.{nobody, also}
 use Rattle.basics.specs.Lists.Sorted.{empty, ahead}
-use Rattle.basics.proofs.Cases.{pick-case}
+use Rattle.basics.proofs.Cases.{pick-case, and-true}
 use Rattle.basics.proofs.Everywhere.{every-map, every-member}
 use Rattle.refusals.specs.Refusals.{Refusal, refuse, answer, outcome}
 
@@ -61,6 +61,30 @@ outcome-case P rs done refused f g = pick-case P (eqb (answer rs) 0) done (refus
 pub record Printed (rs : List Refusal) : Type 0 where
   pub rising : Sorted (λ r s. r .number < s .number) rs
   pub some : Every (λ r. 0 < r .number) rs
+
+-- numbers above k that rise: a test that is worked out from the numbers alone
+abbrev pub risingFrom : ℕ → List Refusal → Bool
+risingFrom k [] = true
+risingFrom k (r ∷ rs) = ltb k (r .number) && risingFrom (r .number) rs
+
+rising-above : (k : ℕ) (rs : List Refusal) → risingFrom k rs ≡ true → Every (λ r. k < r .number) rs
+rising-above k [] e = nobody
+rising-above k (r ∷ rs) e =
+    let both = and-true (ltb k (r .number)) (risingFrom (r .number) rs) e in
+    let h = ltb-true k (r .number) (both .0) in
+    also h (every-map (λ (x : Refusal) (l : r .number < x .number). less l h) (rising-above (r .number) rs (both .1)))
+  where
+    less : {a b c : ℕ} → b < c → a < b → a < c
+    less x y = omega arith
+
+rising-sorted : (k : ℕ) (rs : List Refusal) → risingFrom k rs ≡ true → Sorted (λ r s. r .number < s .number) rs
+rising-sorted k [] e = empty
+rising-sorted k (r ∷ rs) e =
+    let both = and-true (ltb k (r .number)) (risingFrom (r .number) rs) e in
+    ahead (rising-above (r .number) rs (both .1)) (rising-sorted (r .number) rs (both .1))
+
+pub is-printed : (rs : List Refusal) → risingFrom 0 rs ≡ true → Printed rs
+is-printed rs e = record { rising = rising-sorted 0 rs e; some = rising-above 0 rs e }
 
 -- n's condition holds, and the condition of no smaller number does
 pub record Smallest (rs : List Refusal) (n : ℕ) : Type 0 where
@@ -126,3 +150,36 @@ answer-number rs n p z = (
   λ e. given-smallest rs n (p .rising) e z,
   λ h. smallest-given rs n (p .rising) (h .it) (h .listed) (h .number) (h .holds) (h .least),
 )
+
+-- ---- refusals ahead of others
+-- a list that refuses by n does so whatever stands behind it
+pub refused-ahead : (rs more : List Refusal) (n : ℕ) → answer rs ≡ n → (n ≡ 0 → ⊥) → answer (rs ++ more) ≡ n
+unfolding answer
+refused-ahead [] more n e z = absurd (z (sym e))
+refused-ahead (r ∷ rs) more n e z = by (r .holds) e (λ q. refused-ahead rs more n q z)
+  where
+    by : (t : Bool) → pick t (r .number) (answer rs) ≡ n → (answer rs ≡ n → answer (rs ++ more) ≡ n) → pick t (r .number) (answer (rs ++ more)) ≡ n
+    by true q f = q
+    by false q f = f q
+
+-- a list that refuses nothing leaves the answer to those behind it
+pub passed-ahead : (rs more : List Refusal) → Every (λ r. 0 < r .number) rs → answer rs ≡ 0 → answer (rs ++ more) ≡ answer more
+unfolding answer
+passed-ahead [] more s e = refl
+passed-ahead (r ∷ rs) more (also p s) e = by (r .holds) e (passed-ahead rs more s)
+  where
+    by : (t : Bool) → pick t (r .number) (answer rs) ≡ 0 → (answer rs ≡ 0 → answer (rs ++ more) ≡ answer more) →
+        pick t (r .number) (answer (rs ++ more)) ≡ answer more
+    by true q f = absurd (omega arith)
+    by false q f = f q
+
+-- an accepted call passed the list ahead and those behind it
+pub ahead-passed : (rs more : List Refusal) → Every (λ r. 0 < r .number) rs → answer (rs ++ more) ≡ 0 → (answer rs ≡ 0) × (answer more ≡ 0)
+unfolding answer
+ahead-passed [] more s e = (refl, e)
+ahead-passed (r ∷ rs) more (also p s) e = by (r .holds) e (ahead-passed rs more s)
+  where
+    by : (t : Bool) → pick t (r .number) (answer (rs ++ more)) ≡ 0 → (answer (rs ++ more) ≡ 0 → (answer rs ≡ 0) × (answer more ≡ 0)) →
+        (pick t (r .number) (answer rs) ≡ 0) × (answer more ≡ 0)
+    by true q f = absurd (omega arith)
+    by false q f = f q

@@ -1,17 +1,19 @@
 -- The refusals of each call that need no book: from its input, and on the obligation that was fetched.
 use Prim.Native.Nat.{ℕ}
-use mathlib.Core.Bool.{Bool, true, false, _||_, _&&_, not}
-use mathlib.Core.List.{List, [], _∷_}
+use mathlib.Core.Bool.{Bool, true, false, _||_, not}
+use mathlib.Core.List.{List, [], _∷_, _++_}
 use lib.Dec.{ltb, leb, eqb}
 use Rattle.calendar.specs.declared.Day.{Day}
 use Rattle.calendar.specs.declared.ClosedDays.{ClosedDays}
+use Rattle.calendar.specs.declared.NextDay.{NextDay}
+use Rattle.calendar.specs.declared.NextDay.the-variants.{At, Never}
 use Rattle.calendar.specs.Closed.{lastDay, listed}
 use Rattle.calendar.specs.Days.{clearing}
-use Rattle.amounts.specs.Amounts.{mostQuantity, mostAmount, mostOfferPrice, aboveCap}
+use Rattle.amounts.specs.Amounts.{mostQuantity, mostAmount, mostClosePrice, mostOfferPrice, mostRate, aboveCap}
 use Rattle.instructions.specs.declared.Leg.{Leg}
 use Rattle.ledger.specs.declared.Terms.{Terms}
 use Rattle.ledger.specs.declared.Obligation.{Obligation}
-use Rattle.ledger.specs.Obligations.{isParty, hasWished}
+use Rattle.ledger.specs.Obligations.{isParty, hasWished, inBuyIn}
 use Rattle.refusals.specs.Refusals.{Refusal, refuse, outside, noMember}
 
 -- 01, Refusals, 11, of Open: the first day no clearing day or above 65,535
@@ -50,10 +52,6 @@ deliverRefusalsOf today o q =
     ∷ refuse 16 (ltb (today .0) (o .day .0))
     ∷ []
 
--- 01, Buy-in: the ages above grace up to last
-abbrev pub inBuyIn : Terms → ℕ → Bool
-inBuyIn terms age = ltb (terms .grace .0) age && leb age (terms .last .0)
-
 -- 01, Refusals, of Offer on the obligation that was fetched, with its age and this many offers
 unfoldable pub offerRefusalsOf : Terms → Day → ℕ → ℕ → Obligation → ℕ → List Refusal
 offerRefusalsOf terms today age offers o price =
@@ -64,9 +62,30 @@ offerRefusalsOf terms today age offers o price =
     ∷ []
 
 -- 01, Refusals, of Offer from the input
-unfoldable pub offerRefusalsIn : ℕ → ℕ → ℕ → List Refusal → List Refusal
-offerRefusalsIn supplier q price more =
+unfoldable pub offerRefusalsIn : ℕ → ℕ → ℕ → List Refusal
+offerRefusalsIn supplier q price =
     refuse 1 (ltb 999 supplier)
     ∷ refuse 2 (outside 1 mostQuantity q)
     ∷ refuse 3 (outside 1 mostOfferPrice price)
-    ∷ more
+    ∷ []
+
+-- 01, Close: the fewest words of its list
+abbrev pub fewestWords : ℕ
+fewestWords = 1152
+
+-- 01, Refusals, 20: no clearing day after today
+abbrev pub isNever : NextDay → Bool
+isNever (At d) = false
+isNever Never = true
+
+-- 01, Refusals, 3, of Close
+abbrev pub badRates : ℕ → ℕ → Bool
+badRates price rate = outside 1 mostClosePrice price || ltb mostRate rate
+
+-- 01, Refusals, of Close from the input, with this many words lent
+unfoldable pub closeRefusalsIn : ℕ → ℕ → ℕ → List Refusal
+closeRefusalsIn price rate words = refuse 3 (badRates price rate) ∷ refuse 5 (ltb words fewestWords) ∷ []
+
+-- 01, Refusals, of Close: next is the next clearing day after today
+unfoldable pub closeRefusals : ℕ → ℕ → ℕ → NextDay → List Refusal
+closeRefusals price rate words next = closeRefusalsIn price rate words ++ refuse 20 (isNever next) ∷ []

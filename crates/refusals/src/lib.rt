@@ -7,12 +7,11 @@ use instructions::Leg;
 use ledger::Obligation;
 use ledger::Terms;
 ghost use mathlib.Core.Path.{_≡_};
-ghost use mathlib.Core.List.{[]};
 ghost use Prim.Native.Nat.{_≤_};
 ghost use Rattle.amounts.specs.Amounts.{mostOfferPrice, mostClosePrice};
 ghost use Rattle.refusals.specs.Refusals.{outside, answer};
 ghost use Rattle.refusals.specs.Calls.{badFirst, badParties, badDay, enterRefusals, cancelRefusalsOf};
-ghost use Rattle.refusals.specs.Calls.{deliverRefusalsOf, inBuyIn, offerRefusalsIn, offerRefusalsOf};
+ghost use Rattle.refusals.specs.Calls.{deliverRefusalsOf, offerRefusalsIn, offerRefusalsOf, badRates, closeRefusalsIn};
 
 // Whether a number is not low to high.
 pub fn is_outside(low: u64, high: u64, x: u64) -> bool
@@ -122,21 +121,9 @@ pub fn deliver_answer(today: Day, found: Obligation, quantity: u64) -> u64
     0
 }
 
-// Whether an age is one at which the house buys in: above grace up to last.
-fn is_in_buy_in(terms: Terms, age: ClearingDays) -> bool
-    ensures { λ r. ⌜ r ≡ inBuyIn terms (age .0) ⌝ }
-{
-    let grace = terms.grace;
-    let last = terms.last;
-    if grace.0 < age.0 {
-        return age.0 <= last.0;
-    }
-    false
-}
-
 // The answer number of an offer by its own numbers.
 pub fn offer_answer(supplier: u64, quantity: u64, price: u64) -> u64
-    ensures { λ r. ⌜ r ≡ answer (offerRefusalsIn supplier quantity price []) ⌝ }
+    ensures { λ r. ⌜ r ≡ answer (offerRefusalsIn supplier quantity price) ⌝ }
 {
     if 999 < supplier {
         return 1;
@@ -170,7 +157,7 @@ pub fn offer_answer_of(
     if today.0 < day.0 {
         return 16;
     }
-    if is_in_buy_in(terms, age) {} else {
+    if terms.buys_in(age) {} else {
         return 16;
     }
     if 64 <= offers {
@@ -178,6 +165,29 @@ pub fn offer_answer_of(
     }
     if amounts::above_cap(price, found.grace_price) {
         return 18;
+    }
+    0
+}
+
+// Whether the price or the rate of a Close is refused.
+fn are_bad_rates(price: u64, rate: u64) -> bool
+    ensures { λ r. ⌜ r ≡ badRates price rate ⌝ }
+{
+    if is_outside(1, 150_000, price) {
+        return true;
+    }
+    100 < rate
+}
+
+// The answer number of a Close by its own numbers, with this many words lent.
+pub fn close_answer(price: u64, rate: u64, words: usize) -> u64
+    ensures { λ r. ⌜ r ≡ answer (closeRefusalsIn price rate words) ⌝ }
+{
+    if are_bad_rates(price, rate) {
+        return 3;
+    }
+    if words < 1_152 {
+        return 5;
     }
     0
 }

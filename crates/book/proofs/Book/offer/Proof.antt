@@ -3,7 +3,7 @@ use mathlib.Core.Path.{_≡_, refl, sym, ap, _∙_}
 use borrow.Author.Needs.{needs}
 use Rattle.book.specs.Book.{withLedger, ageOf}
 use Rattle.book.specs.Buying.{offer, offerRefusals}
-use Rattle.refusals.specs.Calls.{offerRefusalsOf}
+use Rattle.refusals.specs.Calls.{offerRefusalsIn, offerRefusalsOf}
 use Rattle.book.specs.Instructing.{doneRefused}
 use Rattle.refusals.specs.Refusals.{answer}
 use Rattle.book.specs.declared.Done.{Done}
@@ -11,8 +11,8 @@ use Rattle.calendar.specs.declared.ClearingDays.{ClearingDays}
 use Rattle.book.proofs.Answers.{answered}
 use Rattle.book.proofs.Book.offer.Statement.{statement}
 use Rattle.book.proofs.Kept.{offer-valid}
-use Rattle.refusals.proofs.Offering.{input-first, input-passed, input-price, offers-few}
-use Rattle.refusals.proofs.Refusals.{pass, stop, refused-by, refused-with, done-by}
+use Rattle.refusals.proofs.Offering.{offer-some, input-price, offers-few}
+use Rattle.refusals.proofs.Refusals.{pass, stop, refused-by, refused-with, done-by, refused-ahead, passed-ahead}
 use Rattle.ledger.proofs.Valid.{There, found-there, absent-not, there-sound}
 use Rattle.book.proofs.Book.offer.Tie as tie
 
@@ -35,7 +35,7 @@ offer-answer-requires c κs = search needs
 
 returns : tie.Need-returns
 unfolding offer offerRefusals
-returns c = (refused-with _ _ _ (doneRefused _) (input-first _ _ _ _ (c .before .offer-answer .result) (sym (c .before .offer-answer .ensures)) (c .if1 .taken)) (c .if1 .taken), c .before .before .pre)
+returns c = (refused-with _ _ _ (doneRefused _) (refused-ahead (offerRefusalsIn _ _ _) _ (c .before .offer-answer .result) (sym (c .before .offer-answer .ensures)) (c .if1 .taken)) (c .if1 .taken), c .before .before .pre)
 
 fetch-requires : tie.Need-fetch-requires
 fetch-requires c κs = search needs
@@ -48,7 +48,7 @@ enum-told c = search needs
 
 returns-2 : tie.Need-returns-2
 unfolding offer offerRefusals
-returns-2 c = (refused-by 13 _ _ (doneRefused _) (input-passed _ _ _ _ (sym (c .before .before .before .before .before .offer-answer .ensures) ∙ c .before .before .before .before .if1 .left) ∙ stop 13 _ (rw (absent-not _ _ (sym (c .before .before .fetch .ensures) ∙ c .enum-told .given .1)))) refl, c .before .before .before .before .before .before .pre)
+returns-2 c = (refused-by 13 _ _ (doneRefused _) (passed-ahead (offerRefusalsIn _ _ _) _ (offer-some _ _ _) (sym (c .before .before .before .before .before .offer-answer .ensures) ∙ c .before .before .before .before .if1 .left) ∙ stop 13 _ (rw (absent-not _ _ (sym (c .before .before .fetch .ensures) ∙ c .enum-told .given .1)))) refl, c .before .before .before .before .before .before .pre)
 
 age-at-requires : tie.Need-age-at-requires
 age-at-requires c κs = search needs
@@ -58,7 +58,7 @@ offer-answer-of-requires c κs = (input-price _ _ _ (sym (c .before .before .bef
 
 returns-3 : tie.Need-returns-3
 unfolding offer offerRefusals
-returns-3 c = let t = there (c .before .before .before .before .before .before .before .before) in (refused-with _ _ _ (doneRefused _) (input-passed _ _ _ _ (sym (c .before .before .before .before .before .before .before .before .before .before .before .before .before .offer-answer .ensures) ∙ c .before .before .before .before .before .before .before .before .before .before .before .before .if1 .left) ∙ pass 13 _ (rw (t .below)) ∙ rw (← t .same) (late (c .before))) (c .if2 .taken), c .before .before .before .before .before .before .before .before .before .before .before .before .before .before .pre)
+returns-3 c = let t = there (c .before .before .before .before .before .before .before .before) in (refused-with _ _ _ (doneRefused _) (passed-ahead (offerRefusalsIn _ _ _) _ (offer-some _ _ _) (sym (c .before .before .before .before .before .before .before .before .before .before .before .before .before .offer-answer .ensures) ∙ c .before .before .before .before .before .before .before .before .before .before .before .before .if1 .left) ∙ pass 13 _ (rw (t .below)) ∙ rw (← t .same) (late (c .before))) (c .if2 .taken), c .before .before .before .before .before .before .before .before .before .before .before .before .before .before .pre)
 
 offer-requires : tie.Need-offer-requires
 offer-requires c κs = offers-few _ _ _ _ _ _ (sym (c .before .offer-answer-of .ensures) ∙ c .if2 .left)
@@ -68,7 +68,7 @@ unfolding offer offerRefusals
 returns-4 c = let t = there (c .before .before .before .before .before .before .before .before .before) in let a = c .before .before .before .before .before .before .before .before .before .before .before .before .before .before .before .args in
     answered (λ (r : Done). r .book)
     ((λ i. record { answer = 0; book = withLedger (c .offer .ensures i) (a .self) })
-    ∙ done-by _ _ (doneRefused _) (input-passed _ _ _ _ (sym (c .before .before .before .before .before .before .before .before .before .before .before .before .before .before .offer-answer .ensures) ∙ c .before .before .before .before .before .before .before .before .before .before .before .before .before .if1 .left) ∙ pass 13 _ (rw (t .below)) ∙ rw (← t .same) (late (c .before .before) ∙ c .before .if2 .left)))
+    ∙ done-by _ _ (doneRefused _) (passed-ahead (offerRefusalsIn _ _ _) _ (offer-some _ _ _) (sym (c .before .before .before .before .before .before .before .before .before .before .before .before .before .before .offer-answer .ensures) ∙ c .before .before .before .before .before .before .before .before .before .before .before .before .before .if1 .left) ∙ pass 13 _ (rw (t .below)) ∙ rw (← t .same) (late (c .before .before) ∙ c .before .if2 .left)))
     (offer-valid _ (c .before .before .before .before .before .before .before .before .before .before .before .before .before .before .before .pre) (a .obligation) (a .supplier) (a .quantity) (a .price))
 
 pub offer-spec : {M : Type 1} → statement M

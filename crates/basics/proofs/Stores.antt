@@ -1,0 +1,24 @@
+-- Stores in a list, one after another.
+use Prim.Native.Nat.{ℕ, suc, _+_, _≤_}
+use native.Mathlib.Nat.{add-zero, zero-add, add-suc, suc-add}
+use native.Mathlib.Omega.{arith}
+use mathlib.Core.Path.{_≡_, sym, ap, _∙_}
+use mathlib.Core.List.{List, [], _∷_, _++_}
+use lib.ListN.{length, set, take, drop}
+use lib.Seq.{sets, sets-eq, take-append-seam}
+
+-- stores behind stores
+pub sets-append : {A : Type 0} (l : List A) (i : ℕ) (xs ys : List A)
+    → sets l i (xs ++ ys) ≡ sets (sets l i xs) (i + length xs) ys
+sets-append l i [] ys = ap (λ (n : ℕ). sets l n ys) (sym (add-zero i))
+sets-append l i (x ∷ xs) ys =
+    sets-append (set l i x) (suc i) xs ys
+    ∙ ap (λ (n : ℕ). sets (sets (set l i x) (suc i) xs) n ys) (suc-add i (length xs) ∙ sym (add-suc i (length xs)))
+
+-- what is stored in front is read back
+pub sets-front : {A : Type 0} (l vs : List A) → length vs ≤ length l → take (length vs) (sets l 0 vs) ≡ vs
+sets-front l vs h = rw (sets-eq vs l 0 (omega arith)) (take-append-seam vs (drop (0 + length vs) l))
+
+-- what is stored in front stands ahead of what was behind it
+pub sets-ahead : {A : Type 0} (l vs : List A) → length vs ≤ length l → sets l 0 vs ≡ vs ++ drop (length vs) l
+sets-ahead l vs h = sets-eq vs l 0 (omega arith) ∙ ap (λ (k : ℕ). vs ++ drop k l) (zero-add (length vs))

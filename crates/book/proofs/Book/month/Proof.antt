@@ -1,0 +1,43 @@
+-- `month` meets its contract.
+use mathlib.Core.Bool.{false}
+use mathlib.Core.Path.{sym, ap, subst, _∙_}
+use borrow.Author.Needs.{needs}
+use Rattle.book.proofs.Paid.{accounts-bounded, paid-valid}
+use Rattle.book.specs.Month.{month}
+use Rattle.book.specs.Instructing.{doneRefused}
+use Rattle.book.specs.Book.{Valid}
+use Rattle.book.specs.declared.Book.{Book}
+use Rattle.refusals.proofs.Refusals.{done-by, refused-with}
+use Rattle.ledger.specs.declared.Ledger.{Ledger}
+use Rattle.book.proofs.Book.month.Statement.{statement}
+use Rattle.book.proofs.Book.month.Tie as tie
+
+settle-month-requires : tie.Need-settle-month-requires
+settle-month-requires c κs = let v = c .before .before .before .before .before .pre in (accounts-bounded (c .before .before .before .before .before .args .self) v, v .ledger-valid .accounts-even)
+
+same-length : tie.Need-same-length
+same-length c = search needs
+
+returns : tie.Need-returns
+unfolding month
+returns c = let e = c .before .before .before .settle-month .ensures in
+    (refused-with _ _ _ (doneRefused (c .before .before .before .before .before .before .before .before .before .args .self)) (sym (e .0)) (c .if1 .taken), (e .1, c .before .before .before .before .before .before .before .before .before .pre))
+
+clear-requires : tie.Need-clear-requires
+clear-requires c κs = search needs
+
+same-length-2 : tie.Need-same-length-2
+same-length-2 c = search needs
+
+returns-2 : tie.Need-returns-2
+unfolding month
+returns-2 c = let e = c .before .before .before .before .settle-month .ensures in let b = c .before .before .before .before .before .before .before .before .before .before .args .self in
+    let after : Ledger → Book = λ l. record { closed = b .closed; terms = b .terms; today = b .today; «close_since» = false; legs = b .legs; ledger = l } in (
+      ap (λ (l : Ledger). record { answer = 0; book = after l }) (c .clear .ensures) ∙ done-by _ _ (doneRefused b) (sym (e .0) ∙ c .before .if1 .left),
+      (e .1, subst (λ (l : Ledger). Valid (after l)) (sym (c .clear .ensures)) (paid-valid b (c .before .before .before .before .before .before .before .before .before .before .pre))),
+    )
+
+pub month-spec : {M : Type 1} → statement M
+month-spec =
+    tie.close
+    (tie.spec settle-month-requires same-length returns clear-requires same-length-2 returns-2)

@@ -1,0 +1,33 @@
+-- Month.
+use Prim.Native.Nat.{ℕ}
+use mathlib.Core.Bool.{false}
+use mathlib.Core.List.{List}
+use Rattle.ledger.specs.Ledger.{clearedLedger}
+use Rattle.payments.specs.Month.{monthNumber, paidOut}
+use Rattle.refusals.specs.Refusals.{outcome}
+use Rattle.book.specs.declared.Book.{Book}
+use Rattle.book.specs.declared.Done.{Done}
+use Rattle.book.specs.Instructing.{doneRefused}
+
+-- 01, Month: the book after it
+abbrev pub monthBook : Book → Book
+monthBook b = record {
+  closed = b .closed;
+  terms = b .terms;
+  today = b .today;
+  «close_since» = false;
+  legs = b .legs;
+  ledger = clearedLedger (b .ledger);
+}
+
+-- 01, Refusals, of Month: with this many places for payouts
+abbrev pub monthAnswer : Book → List ℕ → ℕ → ℕ
+monthAnswer b collected places = monthNumber (b .ledger .accounts) (b .«close_since») collected places
+
+-- 01, Month: with this many places for payouts
+unfoldable pub month : Book → List ℕ → ℕ → Done
+month b collected places = outcome (monthAnswer b collected places) (record { answer = 0; book = monthBook b }) (doneRefused b)
+
+-- 01, Month: every word of the payouts as it ends
+abbrev pub monthWords : Book → List ℕ → List ℕ → List ℕ
+monthWords b collected places = paidOut (b .ledger .accounts) (b .«close_since») collected places

@@ -1,0 +1,86 @@
+-- Lines in the lent list: stores one after another, and parts of a Close one after another.
+use Prim.Native.Nat.{ℕ, suc, _+_, _*_}
+use native.Mathlib.Omega.{arith}
+use native.Mathlib.Nat.{add-zero}
+use mathlib.Core.Path.{_≡_, refl, sym, ap, subst, _∙_}
+use mathlib.Core.List.{List, [], _∷_, _++_}
+use lib.ListN.{length, set, length-append}
+use lib.Seq.{sets, length-sets}
+use Rattle.basics.proofs.Stores.{sets-append}
+use Rattle.ledger.specs.declared.Obligation.{Obligation}
+use Rattle.closing.specs.declared.Line.{Line}
+use Rattle.closing.specs.declared.Closing.{Closing}
+use Rattle.closing.specs.Lines.{wordsOf, flat, Made, nothing, one, then, Room, Wrote}
+
+-- six stores are the words of a line
+pub six-stores : (ws : List ℕ) (k : ℕ) (l : Line) →
+    set (set (set (set (set (set ws k (l .kind)) (k + 1) (l .obligation)) (k + 2) (l .quantity)) (k + 3) (l .cents)) (k + 4) (l .supplier)) (k + 5) (l .price) ≡ sets ws k (wordsOf l)
+six-stores ws k l =
+    let e1 : k + 1 ≡ suc k = omega arith in
+    let e2 : k + 2 ≡ suc (suc k) = omega arith in
+    let e3 : k + 3 ≡ suc (suc (suc k)) = omega arith in
+    let e4 : k + 4 ≡ suc (suc (suc (suc k))) = omega arith in
+    let e5 : k + 5 ≡ suc (suc (suc (suc (suc k)))) = omega arith in
+    rw (e1, e2, e3, e4, e5)
+
+pub flat-append : (ls ms : List Line) → flat (ls ++ ms) ≡ flat ls ++ flat ms
+unfolding flat
+flat-append [] ms = refl
+flat-append (l ∷ ls) ms = rw (flat-append ls ms)
+
+-- a line has six words
+pub flat-length : (ls : List Line) → length (flat ls) ≡ 6 * length ls
+unfolding flat
+flat-length [] = refl
+flat-length (l ∷ ls) = omega (arith, flat-length ls)
+
+-- lines behind lines
+pub flat-stores : (ws : List ℕ) (count : ℕ) (ls ms : List Line) →
+    sets (sets ws (6 * count) (flat ls)) (6 * (count + length ls)) (flat ms) ≡ sets ws (6 * count) (flat (ls ++ ms))
+flat-stores ws count ls ms =
+    ap (λ (k : ℕ). sets (sets ws (6 * count) (flat ls)) k (flat ms)) (omega (arith, flat-length ls))
+    ∙ sym (sets-append ws (6 * count) (flat ls) (flat ms))
+    ∙ ap (λ (l : List ℕ). sets ws (6 * count) l) (sym (flat-append ls ms))
+
+-- nothing is written
+pub wrote-nothing : (s : Closing) (ws : List ℕ) → Wrote (s .count) ws s ws (nothing (s .obligation))
+unfolding flat
+wrote-nothing s ws = record { made = refl; counted = sym (add-zero (s .count)); words = refl }
+
+-- one line is written
+pub wrote-one : (o : Obligation) (count : ℕ) (l : Line) (ws ws' : List ℕ) → ws' ≡ sets ws (6 * count) (wordsOf l) →
+    Wrote count ws (record { obligation = o; count = count + 1 }) ws' (one o l)
+unfolding flat
+wrote-one o count l ws ws' e = record { made = refl; counted = refl; words = e }
+
+-- one part after another
+pub wrote-then : (count : ℕ) (r t : Closing) (ws ws' ws'' : List ℕ) (m : Made) (f : Obligation → Made) →
+    Wrote count ws r ws' m → Wrote (r .count) ws' t ws'' (f (r .obligation)) → Wrote count ws t ws'' (then m f)
+unfolding then
+wrote-then count r t ws ws' ws'' m f p q =
+    let q' : Wrote (r .count) ws' t ws'' (f (m .obligation)) = subst (λ (o : Obligation). Wrote (r .count) ws' t ws'' (f o)) (p .made) q in
+    let ms : List Line = f (m .obligation) .lines in
+    record {
+      made = q' .made;
+      counted = omega (arith, q' .counted, p .counted, length-append (m .lines) ms);
+      words =
+          q' .words
+          ∙ ap (λ (l : List ℕ). sets l (6 * r .count) (flat ms)) (p .words)
+          ∙ ap (λ (k : ℕ). sets (sets ws (6 * count) (flat (m .lines))) (6 * k) (flat ms)) (p .counted)
+          ∙ flat-stores ws count (m .lines) ms;
+    }
+
+-- the list is as long as before
+pub wrote-length : (count : ℕ) (r : Closing) (ws ws' : List ℕ) (m : Made) → Wrote count ws r ws' m → length ws' ≡ length ws
+wrote-length count r ws ws' m p = ap (λ (l : List ℕ). length l) (p .words) ∙ length-sets ws (6 * count) (flat (m .lines))
+
+-- room for two parts is room for the first, and then for the second
+pub room-first : (count : ℕ) (ws : List ℕ) (m : Made) (f : Obligation → Made) → Room count ws (then m f) → Room count ws m
+unfolding then
+room-first count ws m f h = omega (arith, h, length-append (m .lines) (f (m .obligation) .lines))
+
+pub room-second : (count : ℕ) (r : Closing) (ws ws' : List ℕ) (m : Made) (f : Obligation → Made) →
+    Room count ws (then m f) → Wrote count ws r ws' m → Room (r .count) ws' (f (r .obligation))
+unfolding then
+room-second count r ws ws' m f h w =
+    rw (w .made) (omega (arith, h, w .counted, wrote-length count r ws ws' m w, length-append (m .lines) (f (m .obligation) .lines)))

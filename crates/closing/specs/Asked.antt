@@ -1,0 +1,64 @@
+-- What the functions of a Close ask, and what they promise of a lent list.
+use Prim.Native.Nat.{ℕ, _≤_, _<_}
+use mathlib.Core.Path.{_≡_}
+use mathlib.Core.List.{List}
+use lib.IntN.{ℤ, pos, natAbs}
+use lib.ListN.{length, getD, take}
+use Rattle.basics.specs.Lists.{Every}
+use Rattle.amounts.specs.Amounts.{mostClosePrice, mostOfferPrice, mostRate}
+use Rattle.offers.specs.declared.Offers.{Offers}
+use Rattle.offers.specs.declared.Given.{Given}
+use Rattle.offers.specs.declared.BuyIn.{BuyIn}
+use Rattle.offers.specs.Held.{listed}
+use Rattle.offers.specs.BuyIn.{units}
+use Rattle.ledger.specs.declared.Obligation.{Obligation}
+use Rattle.ledger.specs.declared.Ledger.{Ledger}
+use Rattle.ledger.specs.Obligations.{Sound}
+use Rattle.ledger.specs.Ledger.{ValidLedger}
+use Rattle.closing.specs.declared.DayEnd.{DayEnd}
+use Rattle.closing.specs.declared.Line.{Line}
+use Rattle.closing.specs.Lines.{written}
+
+-- what a pass over the offers has found
+abbrev pub taken : BuyIn → List Given
+taken b = take (b .count) (b .given)
+
+-- the offers of a day, each within the limits of a price
+pub record Priced (offers : Offers) : Type 0 where
+  pub few : offers .count ≤ 64
+  pub prices : Every (λ x. x .price ≤ mostOfferPrice) (listed offers)
+
+-- what was found can be bought in
+pub record Buys (o : Obligation) (b : BuyIn) : Type 0 where
+  pub sound : Sound o
+  pub size : length (b .given) ≡ 64
+  pub few : b .count ≤ 64
+  pub enough : units (taken b) ≤ o .parts .outstanding
+  pub prices : Every (λ g. g .offer .price ≤ mostOfferPrice) (taken b)
+
+-- what the Close of one obligation asks
+pub record Closes (d : DayEnd) (offers : Offers) (o : Obligation) : Type 0 where
+  pub sound : Sound o
+  pub price-most : d .price ≤ mostClosePrice
+  pub rate-most : d .rate ≤ mostRate
+  pub priced : Priced offers
+
+-- accounts that take the penalties of 64 obligations and stay within the bound of a transfer (8,796,093,022,208)
+abbrev pub Near : List ℤ → Type 0
+Near accounts = (m : ℕ) → natAbs (getD accounts m (pos 0)) ≤ 8000000000000
+
+-- what the Close of a ledger asks: terms whose notice comes before the last day, limits of its price and rate, and room
+-- for 192 lines of six words
+pub record Closable (d : DayEnd) (l : Ledger) (ws : List ℕ) : Type 0 where
+  pub valid : ValidLedger l
+  pub apart : d .terms .notice .0 < d .terms .last .0
+  pub price-most : d .price ≤ mostClosePrice
+  pub rate-most : d .rate ≤ mostRate
+  pub accounts-near : Near (l .accounts)
+  pub long : 1152 ≤ length ws
+
+-- a result and its lines: how many there are, and the list with them at its front
+pub record ClosedAs {A : Type 0} (a : A) (ls : List Line) (r : A) (count : ℕ) (ws ws' : List ℕ) : Type 0 where
+  pub result : r ≡ a
+  pub counted : count ≡ length ls
+  pub words : ws' ≡ written ls ws

@@ -1,0 +1,71 @@
+-- A Close of all obligations, and of the accounts.
+use Prim.Native.Nat.{ℕ, zero, suc}
+use mathlib.Core.List.{List, [], _++_}
+use lib.IntN.{ℤ}
+use lib.ListN.{getD, set}
+use Rattle.basics.specs.Choice.{pick}
+use Rattle.calendar.specs.declared.Day.{Day}
+use Rattle.calendar.specs.Closed.{listed as closedListed}
+use Rattle.calendar.specs.Days.{ageAt}
+use Rattle.amounts.specs.Amounts.{penalty}
+use Rattle.netting.specs.Accounts.{transferred}
+use Rattle.offers.specs.declared.Offer.{Offer}
+use Rattle.offers.specs.Held.{noOffers, listed}
+use Rattle.ledger.specs.declared.Obligation.{Obligation}
+use Rattle.ledger.specs.declared.Ledger.{Ledger}
+use Rattle.ledger.specs.Obligations.{noObligation, isDue}
+use Rattle.closing.specs.declared.DayEnd.{DayEnd}
+use Rattle.closing.specs.declared.Line.{Line}
+use Rattle.closing.specs.Lines.{Made, nothing, then}
+use Rattle.closing.specs.Stages.{priced, penalised, noticeAt, buyInAt, compensatedAt}
+
+-- 01, Close: what happens to an obligation that is due, in the order of the chapter
+unfoldable pub stages : DayEnd → ℕ → List Offer → ℕ → Obligation → Made
+stages d age offers n o =
+    then (then (then (penalised n (d .price) (d .rate) (priced (d .terms) age (d .price) o))
+    (noticeAt (d .terms) age n))
+    (buyInAt (d .terms) age offers n))
+    (compensatedAt (d .terms) age (d .price) n)
+
+-- 01, Close: for each obligation with J reached and something outstanding
+unfoldable pub closedOne : DayEnd → List Offer → ℕ → Obligation → Made
+closedOne d offers n o =
+    pick (isDue (d .today) o) (stages d (ageAt (closedListed (d .closed)) (o .day) (d .today) .0) offers n o) (nothing o)
+
+-- obligation n of these at the Close
+abbrev pub closedAt : DayEnd → List Offer → List Obligation → ℕ → Made
+closedAt d offers os n = closedOne d offers n (getD os n noObligation)
+
+-- 01, Close: in rising number, the obligations after the first n of them
+unfoldable pub rowsUpTo : DayEnd → List Offer → List Obligation → ℕ → List Obligation
+rowsUpTo d offers os zero = os
+rowsUpTo d offers os (suc n) = set (rowsUpTo d offers os n) n (closedAt d offers os n .obligation)
+
+-- 01, Close: in rising number, the lines of the first n obligations
+unfoldable pub linesUpTo : DayEnd → List Offer → List Obligation → ℕ → List Line
+linesUpTo d offers os zero = []
+linesUpTo d offers os (suc n) = linesUpTo d offers os n ++ closedAt d offers os n .lines
+
+-- 01, Close, penalty: debited to the seller's account, credited to the buyer's
+unfoldable pub fined : Day → ℕ → ℕ → Obligation → List ℤ → List ℤ
+fined today price rate o accounts =
+    pick (isDue today o) (transferred (o .seller) (o .buyer) (penalty (o .parts .outstanding) price rate) accounts) accounts
+
+-- the accounts after the penalties of the first n obligations
+unfoldable pub accountsUpTo : Day → ℕ → ℕ → List Obligation → List ℤ → ℕ → List ℤ
+accountsUpTo today price rate os accounts zero = accounts
+accountsUpTo today price rate os accounts (suc n) =
+    fined today price rate (getD os n noObligation) (accountsUpTo today price rate os accounts n)
+
+-- 01, Close: all lines
+abbrev pub closeLines : DayEnd → Ledger → List Line
+closeLines d l = linesUpTo d (listed (l .offers)) (l .obligations) (l .count)
+
+-- 01, Close: the ledger after it; then offers are dropped
+abbrev pub closedLedger : DayEnd → Ledger → Ledger
+closedLedger d l = record {
+  obligations = rowsUpTo d (listed (l .offers)) (l .obligations) (l .count);
+  count = l .count;
+  offers = noOffers;
+  accounts = accountsUpTo (d .today) (d .price) (d .rate) (l .obligations) (l .accounts) (l .count);
+}

@@ -1,0 +1,47 @@
+-- The lines of a Close, and what a part of a Close makes of an obligation.
+use Prim.Native.Nat.{ℕ, _+_, _*_, _≤_}
+use mathlib.Core.Path.{_≡_}
+use mathlib.Core.List.{List, [], _∷_, _++_}
+use lib.ListN.{length, drop}
+use lib.Seq.{sets}
+use Rattle.ledger.specs.declared.Obligation.{Obligation}
+use Rattle.closing.specs.declared.Line.{Line}
+use Rattle.closing.specs.declared.Closing.{Closing}
+
+-- 01, Close: a line of six words
+abbrev pub wordsOf : Line → List ℕ
+wordsOf l = l .kind ∷ l .obligation ∷ l .quantity ∷ l .cents ∷ l .supplier ∷ l .price ∷ []
+
+-- the words of lines, one line after another
+unfoldable pub flat : List Line → List ℕ
+flat [] = []
+flat (l ∷ ls) = wordsOf l ++ flat ls
+
+-- 01, Close: lines at the front of the lent list; the words after them keep their values
+unfoldable pub written : List Line → List ℕ → List ℕ
+written ls ws = flat ls ++ drop (length (flat ls)) ws
+
+-- what a part of a Close makes: the obligation after it, and its lines
+pub record Made : Type 0 where
+  pub obligation : Obligation
+  pub lines : List Line
+
+abbrev pub nothing : Obligation → Made
+nothing o = record { obligation = o; lines = [] }
+
+abbrev pub one : Obligation → Line → Made
+one o l = record { obligation = o; lines = l ∷ [] }
+
+-- one part after another
+unfoldable pub then : Made → (Obligation → Made) → Made
+then m f = record { obligation = f (m .obligation) .obligation; lines = m .lines ++ f (m .obligation) .lines }
+
+-- there is room for the lines of a part behind count lines
+abbrev pub Room : ℕ → List ℕ → Made → Type 0
+Room count ws m = 6 * (count + length (m .lines)) ≤ length ws
+
+-- a part was carried out behind count lines: r is the obligation and the number of lines after it, ws' the list
+pub record Wrote (count : ℕ) (ws : List ℕ) (r : Closing) (ws' : List ℕ) (m : Made) : Type 0 where
+  pub made : r .obligation ≡ m .obligation
+  pub counted : r .count ≡ count + length (m .lines)
+  pub words : ws' ≡ sets ws (6 * count) (flat (m .lines))

@@ -1,0 +1,369 @@
+// The end of a day: what a Close does to each obligation and to the accounts, and the lines that it reports.
+use calendar::ClearingDays;
+use calendar::ClosedDays;
+use calendar::Day;
+use ledger::Ledger;
+use ledger::Obligation;
+use ledger::Terms;
+use offers::BuyIn;
+use offers::Given;
+use offers::Offers;
+ghost use mathlib.Core.Path.{_≡_};
+ghost use Prim.Native.Nat.{_+_, _*_, _≤_};
+ghost use lib.ListN.{length};
+ghost use lib.Seq.{sets};
+ghost use Rattle.amounts.specs.Amounts.{mostClosePrice, mostOfferPrice, mostRate};
+ghost use Rattle.netting.specs.Accounts.{Bounded};
+ghost use Rattle.ledger.specs.Obligations.{Sound, Takes};
+ghost use Rattle.ledger.specs.Ledger.{ValidLedger};
+ghost use Rattle.offers.specs.Held.{listed};
+ghost use Rattle.closing.specs.Lines.{wordsOf, one, Wrote, Room};
+ghost use Rattle.closing.specs.Stages.{priced, penalised, noticeAt, boughtFrom, boughtAll, buyInAt, compensatedAt};
+ghost use Rattle.closing.specs.Close.{stages, closedOne, rowsUpTo, fined, accountsUpTo, closedLedger, closeLines};
+ghost use Rattle.closing.specs.Asked.{taken, Priced, Buys, Closes, Near, Closable, ClosedAs};
+
+// What a Close goes by: the book's days and terms, and the price and the rate that it was given.
+pub struct DayEnd {
+    pub closed: ClosedDays,
+    pub terms: Terms,
+    pub today: Day,
+    pub price: u64,
+    pub rate: u64,
+}
+
+// A line of a Close. Kinds: 1 penalty, 2 notice, 3 bought, 4 compensated.
+pub struct Line {
+    pub kind: u64,
+    pub obligation: u64,
+    pub quantity: u64,
+    pub cents: u64,
+    pub supplier: u64,
+    pub price: u64,
+}
+
+// An obligation as its Close goes on, and how many lines there are so far.
+pub struct Closing {
+    pub obligation: Obligation,
+    pub count: usize,
+}
+
+// All obligations after a Close, and how many lines it reported.
+pub struct ClosedRows {
+    pub obligations: [Obligation; 64],
+    pub count: usize,
+}
+
+// The ledger after a Close, and how many lines it reported.
+pub struct ClosedLedger {
+    pub ledger: Ledger,
+    pub count: usize,
+}
+
+// A line is written behind the count lines so far.
+fn put_line(lines: &mut [u64], count: usize, line: Line)
+    requires { ⌜ 6 * (count + 1) ≤ length (now lines) ⌝ }
+    ensures { λ _. ⌜ now (lines .exit) ≡ sets (now (lines .entry)) (6 * count) (wordsOf line) ⌝ }
+{
+    let at = 6 * count;
+    lines[at] = line.kind;
+    lines[at + 1] = line.obligation;
+    lines[at + 2] = line.quantity;
+    lines[at + 3] = line.cents;
+    lines[at + 4] = line.supplier;
+    lines[at + 5] = line.price;
+}
+
+// One line is reported of an obligation, which is then as given.
+fn report(next: Obligation, count: usize, line: Line, lines: &mut [u64]) -> Closing
+    requires { ⌜ Room count (now lines) (one next line) ⌝ }
+    ensures { λ r. ⌜ Wrote count (now (lines .entry)) r (now (lines .exit)) (one next line) ⌝ }
+{
+    put_line(lines, count, line);
+    Closing {
+        obligation: next,
+        count: count + 1,
+    }
+}
+
+// At age = grace the price is kept, for the cap.
+fn keep_price(o: Obligation, terms: Terms, age: ClearingDays, price: u64) -> Obligation
+    ensures { λ r. ⌜ r ≡ priced terms (age .0) price o ⌝ }
+{
+    let grace = terms.grace;
+    if age.0 == grace.0 {
+        return o.keep_price(price);
+    }
+    o
+}
+
+// The penalty on what is outstanding before any buy-in.
+fn penalise(s: Closing, number: u64, price: u64, rate: u64, lines: &mut [u64]) -> Closing
+    requires { ⌜ (Sound (s .obligation)) × (price ≤ mostClosePrice) × (rate ≤ mostRate) ⌝ }
+    requires { ⌜ Room (s .count) (now lines) (penalised number price rate (s .obligation)) ⌝ }
+    ensures { λ r. ⌜ Wrote (s .count) (now (lines .entry)) r (now (lines .exit)) (penalised number price rate (s .obligation)) ⌝ }
+{
+    let o = s.obligation;
+    let parts = o.parts;
+    let left = parts.outstanding;
+    let line = Line {
+        kind: 1,
+        obligation: number,
+        quantity: left,
+        cents: amounts::penalty_of(left, price, rate),
+        supplier: 0,
+        price: 0,
+    };
+    report(o, s.count, line, lines)
+}
+
+// At age = notice, a notice.
+fn give_notice(
+    s: Closing,
+    number: u64,
+    terms: Terms,
+    age: ClearingDays,
+    lines: &mut [u64],
+) -> Closing
+    requires { ⌜ Room (s .count) (now lines) (noticeAt terms (age .0) number (s .obligation)) ⌝ }
+    ensures { λ r. ⌜ Wrote (s .count) (now (lines .entry)) r (now (lines .exit)) (noticeAt terms (age .0) number (s .obligation)) ⌝ }
+{
+    let notice = terms.notice;
+    if age.0 == notice.0 {
+        let o = s.obligation;
+        let parts = o.parts;
+        let line = Line {
+            kind: 2,
+            obligation: number,
+            quantity: parts.outstanding,
+            cents: 0,
+            supplier: 0,
+            price: 0,
+        };
+        return report(o, s.count, line, lines);
+    }
+    s
+}
+
+// One offer gives.
+fn buy_from(s: Closing, number: u64, from: Given, lines: &mut [u64]) -> Closing
+    requires { ⌜ (Takes (s .obligation) (from .quantity)) × (from .offer .price ≤ mostOfferPrice) ⌝ }
+    requires { ⌜ Room (s .count) (now lines) (boughtFrom number from (s .obligation)) ⌝ }
+    ensures { λ r. ⌜ Wrote (s .count) (now (lines .entry)) r (now (lines .exit)) (boughtFrom number from (s .obligation)) ⌝ }
+{
+    let o = s.obligation;
+    let offer = from.offer;
+    let cash = o.cash_for(from.quantity);
+    let line = Line {
+        kind: 3,
+        obligation: number,
+        quantity: from.quantity,
+        cents: amounts::charge_for(from.quantity, offer.price, cash),
+        supplier: offer.supplier,
+        price: offer.price,
+    };
+    let next = o.buy_in(from.quantity);
+    report(next, s.count, line, lines)
+}
+
+// All that offers give is bought in, in their order.
+fn buy_all(start: Closing, number: u64, bought: BuyIn, lines: &mut [u64]) -> Closing
+    requires { ⌜ Buys (start .obligation) bought ⌝ }
+    requires { ⌜ Room (start .count) (now lines) (boughtAll number (taken bought) (start .obligation)) ⌝ }
+    ensures { λ r. ⌜ Wrote (start .count) (now (lines .entry)) r (now (lines .exit)) (boughtAll number (taken bought) (start .obligation)) ⌝ }
+{
+    let given = bought.given;
+    let n = bought.count;
+    let mut s = start;
+    let mut k = 0;
+    while k < n {
+        let from = given[k];
+        s = buy_from(s, number, from, lines);
+        k += 1;
+    }
+    s
+}
+
+// At ages above grace up to last, the buy-in.
+fn buy_in(
+    s: Closing,
+    number: u64,
+    terms: Terms,
+    age: ClearingDays,
+    offers: Offers,
+    lines: &mut [u64],
+) -> Closing
+    requires { ⌜ (Sound (s .obligation)) × (Priced offers) ⌝ }
+    requires { ⌜ Room (s .count) (now lines) (buyInAt terms (age .0) (listed offers) number (s .obligation)) ⌝ }
+    ensures { λ r. ⌜ Wrote (s .count) (now (lines .entry)) r (now (lines .exit)) (buyInAt terms (age .0) (listed offers) number (s .obligation)) ⌝ }
+{
+    if terms.buys_in(age) {
+        let o = s.obligation;
+        let parts = o.parts;
+        let bought = offers.buy_in(number, parts.outstanding);
+        return buy_all(s, number, bought, lines);
+    }
+    s
+}
+
+// At age = last, what is left is compensated, if anything is.
+fn compensate(
+    s: Closing,
+    number: u64,
+    terms: Terms,
+    age: ClearingDays,
+    price: u64,
+    lines: &mut [u64],
+) -> Closing
+    requires { ⌜ (Sound (s .obligation)) × (price ≤ mostClosePrice) ⌝ }
+    requires { ⌜ Room (s .count) (now lines) (compensatedAt terms (age .0) price number (s .obligation)) ⌝ }
+    ensures { λ r. ⌜ Wrote (s .count) (now (lines .entry)) r (now (lines .exit)) (compensatedAt terms (age .0) price number (s .obligation)) ⌝ }
+{
+    let last = terms.last;
+    if age.0 == last.0 {
+        let o = s.obligation;
+        let parts = o.parts;
+        let left = parts.outstanding;
+        if left == 0 {
+            return s;
+        }
+        let line = Line {
+            kind: 4,
+            obligation: number,
+            quantity: left,
+            cents: amounts::compensation_of(left, price),
+            supplier: 0,
+            price: 0,
+        };
+        let next = o.compensate();
+        return report(next, s.count, line, lines);
+    }
+    s
+}
+
+// What a Close does to an obligation of some age that is due.
+fn close_due(
+    o: Obligation,
+    number: u64,
+    age: ClearingDays,
+    day: DayEnd,
+    offers: Offers,
+    count: usize,
+    lines: &mut [u64],
+) -> Closing
+    requires { ⌜ Closes day offers o ⌝ }
+    requires { ⌜ Room count (now lines) (stages day (age .0) (listed offers) number o) ⌝ }
+    ensures { λ r. ⌜ Wrote count (now (lines .entry)) r (now (lines .exit)) (stages day (age .0) (listed offers) number o) ⌝ }
+{
+    let terms = day.terms;
+    let price = day.price;
+    let start = Closing {
+        obligation: keep_price(o, terms, age, price),
+        count: count,
+    };
+    let charged = penalise(start, number, price, day.rate, lines);
+    let noticed = give_notice(charged, number, terms, age, lines);
+    let bought = buy_in(noticed, number, terms, age, offers, lines);
+    compensate(bought, number, terms, age, price, lines)
+}
+
+// What a Close does to an obligation.
+fn close_one(
+    o: Obligation,
+    number: u64,
+    day: DayEnd,
+    offers: Offers,
+    count: usize,
+    lines: &mut [u64],
+) -> Closing
+    requires { ⌜ Closes day offers o ⌝ }
+    requires { ⌜ Room count (now lines) (closedOne day (listed offers) number o) ⌝ }
+    ensures { λ r. ⌜ Wrote count (now (lines .entry)) r (now (lines .exit)) (closedOne day (listed offers) number o) ⌝ }
+{
+    let today = day.today;
+    if o.is_due(today) {
+        let closed = day.closed;
+        let age = closed.age_at(o.day, today);
+        return close_due(o, number, age, day, offers, count, lines);
+    }
+    Closing {
+        obligation: o,
+        count: count,
+    }
+}
+
+// What a Close does to all obligations, in rising number.
+fn close_all(l: Ledger, day: DayEnd, lines: &mut [u64]) -> ClosedRows
+    requires { ⌜ Closable day l (now lines) ⌝ }
+    ensures { λ r. ⌜ ClosedAs (rowsUpTo day (listed (l .offers)) (l .obligations) (l .count)) (closeLines day l) (r .obligations) (r .count) (now (lines .entry)) (now (lines .exit)) ⌝ }
+{
+    let held = l.obligations;
+    let offers = l.offers;
+    let n = l.count;
+    let mut next = held;
+    let mut count = 0;
+    let mut i = 0;
+    while i < n {
+        let o = held[i];
+        let closed = close_one(o, i as u64, day, offers, count, lines);
+        let row = closed.obligation;
+        next[i] = row;
+        count = closed.count;
+        i += 1;
+    }
+    ClosedRows {
+        obligations: next,
+        count: count,
+    }
+}
+
+// The penalty of an obligation that is due, debited to the seller and credited to the buyer.
+fn fine(accounts: [i64; 32], o: Obligation, today: Day, price: u64, rate: u64) -> [i64; 32]
+    requires { ⌜ (Sound o) × (price ≤ mostClosePrice) × (rate ≤ mostRate) × (Bounded accounts) ⌝ }
+    ensures { λ r. ⌜ r ≡ fined today price rate o accounts ⌝ }
+{
+    if o.is_due(today) {
+        let parts = o.parts;
+        let cents = amounts::penalty_of(parts.outstanding, price, rate);
+        let seller = o.seller as usize;
+        let buyer = o.buyer as usize;
+        return netting::transfer(accounts, seller, buyer, cents);
+    }
+    accounts
+}
+
+// The penalties of all obligations on the accounts.
+fn fine_all(l: Ledger, today: Day, price: u64, rate: u64) -> [i64; 32]
+    requires { ⌜ (ValidLedger l) × (Near (l .accounts)) × (price ≤ mostClosePrice) × (rate ≤ mostRate) ⌝ }
+    ensures { λ r. ⌜ r ≡ accountsUpTo today price rate (l .obligations) (l .accounts) (l .count) ⌝ }
+{
+    let held = l.obligations;
+    let count = l.count;
+    let mut accounts = l.accounts;
+    let mut i = 0;
+    while i < count {
+        let o = held[i];
+        let after = fine(accounts, o, today, price, rate);
+        accounts = after;
+        i += 1;
+    }
+    accounts
+}
+
+// The Close of a ledger: every obligation, its lines, its penalty on the accounts. Then the offers are dropped.
+pub fn close(l: Ledger, day: DayEnd, lines: &mut [u64]) -> ClosedLedger
+    requires { ⌜ Closable day l (now lines) ⌝ }
+    ensures { λ r. ⌜ ClosedAs (closedLedger day l) (closeLines day l) (r .ledger) (r .count) (now (lines .entry)) (now (lines .exit)) ⌝ }
+{
+    let accounts = fine_all(l, day.today, day.price, day.rate);
+    let rows = close_all(l, day, lines);
+    let obligations = rows.obligations;
+    let offers = Offers::none();
+    let mut next = l;
+    next.obligations = obligations;
+    next.offers = offers;
+    next.accounts = accounts;
+    ClosedLedger {
+        ledger: next,
+        count: rows.count,
+    }
+}

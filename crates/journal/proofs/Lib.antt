@@ -1,0 +1,11 @@
+-- Whole journals.
+pub mod Moves
+pub mod Steps
+pub mod Reported
+pub mod Penalties
+pub mod Turns
+pub mod Every
+pub mod Months
+pub mod Model
+pub mod Demand3
+pub mod Theorem

@@ -1,0 +1,138 @@
+-- The penalties of a Close: what its lines of kind 1 say of an account is what it does to that account.
+use Prim.Native.Nat.{ℕ, zero, suc, _<_}
+use native.Mathlib.Omega.{arith}
+use mathlib.Core.Path.{_≡_, refl, sym, ap, ap₂, _∙_}
+use mathlib.Core.Bool.{Bool, true, false}
+use mathlib.Core.List.{List, [], _∷_, _++_}
+use mathlib.Core.Option.{Option, some}
+use lib.Dec.{eqb}
+use lib.IntN.{ℤ, pos, negℤ, _+ℤ_, _-ℤ_, +ℤ-assoc, +ℤ-idl, +ℤ-idr}
+use lib.ListN.{length, getD}
+use borrow.Author.Tests.{eqb-true, eqb-false}
+use Rattle.basics.specs.Choice.{pick}
+use Rattle.basics.specs.Lists.{Every}
+use Rattle.basics.specs.Lists.Every.{nobody, also}
+use Rattle.basics.proofs.Cases.{pick-case}
+use Rattle.calendar.specs.declared.Day.{Day}
+use Rattle.amounts.specs.Amounts.{penalty}
+use Rattle.netting.specs.Accounts.{transferred}
+use Rattle.netting.proofs.Transfers.{transferred-length, transferred-debtor, transferred-creditor, transferred-other}
+use Rattle.offers.specs.declared.Offer.{Offer}
+use Rattle.ledger.specs.declared.Obligation.{Obligation}
+use Rattle.ledger.specs.Obligations.{noObligation, isDue}
+use Rattle.closing.specs.declared.DayEnd.{DayEnd}
+use Rattle.closing.specs.declared.Line.{Line}
+use Rattle.closing.specs.Lines.{Made, then}
+use Rattle.closing.specs.Stages.{penalised}
+use Rattle.closing.specs.Close.{closedOne, closedAt, linesUpTo, fined, accountsUpTo}
+use Rattle.closing.proofs.Parts.{priced-parts}
+use Rattle.journal.specs.Effects.{Deal}
+use Rattle.journal.specs.Sums.{creditOf, penaltiesOf}
+use Rattle.journal.proofs.Reported.{Behind, Part, closed-by}
+
+-- ---- the penalties of lines
+module _ (m : ℕ) (deals : ℕ → Option Deal) where
+  penalties-append : (ls ms : List Line) → penaltiesOf m deals (ls ++ ms) ≡ penaltiesOf m deals ls +ℤ penaltiesOf m deals ms
+  unfolding penaltiesOf
+  penalties-append [] ms = sym (+ℤ-idl (penaltiesOf m deals ms))
+  penalties-append (l ∷ ls) ms =
+      let x : ℤ = pick (eqb (l .kind) 1) (creditOf m (l .cents) (deals (l .obligation))) (pos 0) in
+      ap (λ (z : ℤ). x +ℤ z) (penalties-append ls ms) ∙ sym (+ℤ-assoc x (penaltiesOf m deals ls) (penaltiesOf m deals ms))
+
+  -- lines of other kinds are no penalties
+  penalties-none : {n : ℕ} {ls : List Line} → Every (Behind n) ls → penaltiesOf m deals ls ≡ pos 0
+  unfolding penaltiesOf
+  penalties-none nobody = refl
+  penalties-none (also b bs) = rw (b .no-penalty, penalties-none bs)
+
+  -- a part that comes after the penalty adds none
+  penalties-then : (n : ℕ) (x : Made) (f : Obligation → Made) → Part n (x .obligation) (f (x .obligation)) →
+      penaltiesOf m deals (then x f .lines) ≡ penaltiesOf m deals (x .lines)
+  unfolding then
+  penalties-then n x f p =
+      penalties-append (x .lines) (f (x .obligation) .lines)
+      ∙ ap (λ (z : ℤ). penaltiesOf m deals (x .lines) +ℤ z) (penalties-none (p .behind))
+      ∙ +ℤ-idr (penaltiesOf m deals (x .lines))
+
+-- the lines of kind 1 of one obligation are its penalty
+pub fine-line : (d : DayEnd) (offers : List Offer) (n : ℕ) (o : Obligation) (m : ℕ) (deals : ℕ → Option Deal) →
+    penaltiesOf m deals (closedOne d offers n o .lines) ≡ pick (isDue (d .today) o) (creditOf m (penalty (o .parts .outstanding) (d .price) (d .rate)) (deals n)) (pos 0)
+unfolding penalised penaltiesOf
+fine-line d offers n o m deals =
+    let cents : ℕ = penalty (o .parts .outstanding) (d .price) (d .rate) in
+    closed-by d offers n o (λ t (x : Made). penaltiesOf m deals (x .lines) ≡ pick t (creditOf m cents (deals n)) (pos 0))
+    (λ x f a p. penalties-then m deals n x f p ∙ a)
+    (λ age. rw (priced-parts (d .terms) age (d .price) o) (+ℤ-idr (creditOf m cents (deals n))))
+    refl
+
+-- ---- accounts
+-- the deal of an obligation has its parties
+pub record Parties (o : Obligation) (x : Option Deal) : Type 0 where
+  pub deal : Deal
+  pub there : x ≡ some deal
+  pub seller : deal .seller ≡ o .seller
+  pub buyer : deal .buyer ≡ o .buyer
+
+-- what a transfer does to an account is what its cents credit to it
+transferred-credit : (seller buyer cents : ℕ) (accounts : List ℤ) → seller < length accounts → buyer < length accounts → (seller ≡ buyer → ⊥) → (m : ℕ) →
+    getD (transferred seller buyer cents accounts) m (pos 0) ≡ getD accounts m (pos 0) +ℤ (pick (eqb buyer m) (pos cents) (pos 0) -ℤ pick (eqb seller m) (pos cents) (pos 0))
+transferred-credit seller buyer cents accounts s b apart m = by (eqb seller m) (eqb buyer m) refl refl
+  where
+    by : (t u : Bool) → eqb seller m ≡ t → eqb buyer m ≡ u →
+        getD (transferred seller buyer cents accounts) m (pos 0) ≡ getD accounts m (pos 0) +ℤ (pick u (pos cents) (pos 0) -ℤ pick t (pos cents) (pos 0))
+    by true true e f = absurd (apart (eqb-true seller m e ∙ sym (eqb-true buyer m f)))
+    by true false e f = rw (← eqb-true seller m e, +ℤ-idl (negℤ (pos cents))) (transferred-debtor seller buyer cents accounts s apart)
+    by false true e f = rw (← eqb-true buyer m f, +ℤ-idr (pos cents)) (transferred-creditor seller buyer cents accounts b apart)
+    by false false e f =
+        transferred-other seller buyer cents accounts m (λ x. eqb-false seller m e (sym x)) (λ x. eqb-false buyer m f (sym x))
+        ∙ sym (+ℤ-idr (getD accounts m (pos 0)))
+
+-- what cents on a deal of these parties credit to a member
+parties-credit : (o : Obligation) (x : Option Deal) → Parties o x → (m cents : ℕ) →
+    creditOf m cents x ≡ pick (eqb (o .buyer) m) (pos cents) (pos 0) -ℤ pick (eqb (o .seller) m) (pos cents) (pos 0)
+parties-credit o x p m cents = rw (p .there, p .seller, p .buyer)
+
+-- what the penalty of one obligation does to an account
+fined-credit : (today : Day) (price rate : ℕ) (o : Obligation) (accounts : List ℤ) (x : Option Deal) → o .seller < length accounts → o .buyer < length accounts →
+    (o .seller ≡ o .buyer → ⊥) → Parties o x → (m : ℕ) →
+    getD (fined today price rate o accounts) m (pos 0) ≡
+    getD accounts m (pos 0) +ℤ pick (isDue today o) (creditOf m (penalty (o .parts .outstanding) price rate) x) (pos 0)
+unfolding fined
+fined-credit today price rate o accounts x s b apart p m = by (isDue today o) (penalty (o .parts .outstanding) price rate)
+  where
+    by : (t : Bool) (cents : ℕ) →
+        getD (pick t (transferred (o .seller) (o .buyer) cents accounts) accounts) m (pos 0) ≡ getD accounts m (pos 0) +ℤ pick t (creditOf m cents x) (pos 0)
+    by true cents = rw (parties-credit o x p m cents) (transferred-credit (o .seller) (o .buyer) cents accounts s b apart m)
+    by false cents = sym (+ℤ-idr (getD accounts m (pos 0)))
+
+-- there are as many accounts as before
+accounts-length : (today : Day) (price rate : ℕ) (os : List Obligation) (accounts : List ℤ) (n : ℕ) → length (accountsUpTo today price rate os accounts n) ≡ length accounts
+unfolding accountsUpTo fined
+accounts-length today price rate os accounts zero = refl
+accounts-length today price rate os accounts (suc n) =
+    let o : Obligation = getD os n noObligation in
+    let before : List ℤ = accountsUpTo today price rate os accounts n in
+    pick-case (λ (a : List ℤ). length a ≡ length before) (isDue today o) _ _
+    (λ e. transferred-length (o .seller) (o .buyer) (penalty (o .parts .outstanding) price rate) before)
+    (λ e. refl)
+    ∙ accounts-length today price rate os accounts n
+
+-- what the penalties of a Close do to each account is what its lines of kind 1 say
+pub accounts-reported : (d : DayEnd) (offers : List Offer) (os : List Obligation) (accounts : List ℤ) (deals : ℕ → Option Deal) (n : ℕ) →
+    length accounts ≡ 32 →
+    ((k : ℕ) → k < n → (getD os k noObligation .seller < 32) × (getD os k noObligation .buyer < 32) × (getD os k noObligation .seller ≡ getD os k noObligation .buyer → ⊥)) →
+    ((k : ℕ) → k < n → Parties (getD os k noObligation) (deals k)) →
+    (m : ℕ) → getD (accountsUpTo (d .today) (d .price) (d .rate) os accounts n) m (pos 0) ≡ getD accounts m (pos 0) +ℤ penaltiesOf m deals (linesUpTo d offers os n)
+unfolding accountsUpTo linesUpTo penaltiesOf
+accounts-reported d offers os accounts deals zero size sound parties m = sym (+ℤ-idr (getD accounts m (pos 0)))
+accounts-reported d offers os accounts deals (suc n) size sound parties m =
+    let o : Obligation = getD os n noObligation in
+    let before : List ℤ = accountsUpTo (d .today) (d .price) (d .rate) os accounts n in
+    let long : length before ≡ 32 = accounts-length (d .today) (d .price) (d .rate) os accounts n ∙ size in
+    let s = sound n (omega arith) in
+    let ls : List Line = linesUpTo d offers os n in
+    let ms : List Line = closedAt d offers os n .lines in
+    fined-credit (d .today) (d .price) (d .rate) o before (deals n) (omega (arith, s .0)) (omega (arith, s .1)) (s .2) (parties n (omega arith)) m
+    ∙ ap₂ _+ℤ_ (accounts-reported d offers os accounts deals n size (λ k l. sound k (omega arith)) (λ k l. parties k (omega arith)) m) (sym (fine-line d offers n o m deals))
+    ∙ +ℤ-assoc (getD accounts m (pos 0)) (penaltiesOf m deals ls) (penaltiesOf m deals ms)
+    ∙ ap (λ (z : ℤ). getD accounts m (pos 0) +ℤ z) (sym (penalties-append m deals ls ms))

@@ -1,0 +1,227 @@
+-- The lines of a Close: what they say of an obligation is what the Close moves of it.
+use Prim.Native.Nat.{ℕ, zero, suc, _+_, _≤_, _<_}
+use native.Mathlib.Omega.{arith}
+use mathlib.Core.Path.{_≡_, refl, sym, ap, _∙_}
+use mathlib.Core.Bool.{Bool, true, false, _&&_}
+use mathlib.Core.Logic.{⊎-elim}
+use mathlib.Core.List.{List, [], _∷_, _++_}
+use lib.Dec.{eqb}
+use lib.ListN.{length, getD, drop}
+use borrow.Author.Tests.{eq-eqb, ne-eqb}
+use Rattle.basics.specs.Choice.{pick}
+use Rattle.basics.specs.Lists.{total, Every}
+use Rattle.basics.specs.Lists.Every.{nobody, also}
+use Rattle.basics.proofs.Cases.{pick-case, last-or-below}
+use Rattle.basics.proofs.Everywhere.{every-map, every-append}
+use Rattle.basics.proofs.Sums.{total-append}
+use Rattle.calendar.specs.Closed.{listed as closedListed}
+use Rattle.calendar.specs.Days.{ageAt}
+use Rattle.offers.specs.declared.Offer.{Offer}
+use Rattle.offers.specs.declared.Given.{Given}
+use Rattle.offers.specs.BuyIn.{given}
+use Rattle.ledger.specs.declared.Terms.{Terms}
+use Rattle.ledger.specs.declared.Parts.{Parts}
+use Rattle.ledger.specs.declared.Obligation.{Obligation}
+use Rattle.ledger.specs.Obligations.{noObligation, isDue, inBuyIn, buyingIn, compensating}
+use Rattle.closing.specs.declared.DayEnd.{DayEnd}
+use Rattle.closing.specs.declared.Line.{Line}
+use Rattle.closing.specs.Lines.{flat, written, Made, nothing, then}
+use Rattle.closing.specs.Stages.{priced, penalised, noticeAt, boughtFrom, boughtAll, buyInAt, compensated, compensatedAt}
+use Rattle.closing.specs.Close.{stages, closedOne, closedAt, linesUpTo}
+use Rattle.closing.proofs.Parts.{priced-parts}
+use Rattle.journal.specs.Effects.{linesRead}
+use Rattle.journal.specs.Sums.{quantityOf}
+
+-- a sum of zeros
+total-none : {A : Type 0} (f : A → ℕ) {xs : List A} → Every (λ x. f x ≡ 0) xs → total f xs ≡ 0
+unfolding total
+total-none f nobody = refl
+total-none f (also e es) = omega (arith, total-none f es)
+
+-- a line of another obligation counts for nothing
+other-none : (kind k : ℕ) (l : Line) → (l .obligation ≡ k → ⊥) → quantityOf kind k l ≡ 0
+unfolding quantityOf
+other-none kind k l h = rw (ne-eqb (l .obligation) k h) (by (eqb (l .kind) kind))
+  where
+    by : (t : Bool) → pick (t && false) (l .quantity) 0 ≡ 0
+    by true = refl
+    by false = refl
+
+-- ---- one obligation
+-- what a Close of one obligation moves is what its lines say
+pub record Moved (n : ℕ) (o : Obligation) (m : Made) : Type 0 where
+  pub delivered : m .obligation .parts .delivered ≡ o .parts .delivered
+  pub cancelled : m .obligation .parts .cancelled ≡ o .parts .cancelled
+  pub bought-in : m .obligation .parts .«bought_in» ≡ o .parts .«bought_in» + total (quantityOf 3 n) (m .lines)
+  pub compensated : m .obligation .parts .compensated ≡ o .parts .compensated + total (quantityOf 4 n) (m .lines)
+
+-- a line of obligation n that is no penalty
+pub record Behind (n : ℕ) (l : Line) : Type 0 where
+  pub own : l .obligation ≡ n
+  pub no-penalty : eqb (l .kind) 1 ≡ false
+
+-- what a part of a Close does that comes after the penalty
+pub record Part (n : ℕ) (o : Obligation) (m : Made) : Type 0 where
+  pub moved : Moved n o m
+  pub behind : Every (Behind n) (m .lines)
+
+module _ (n : ℕ) where
+  -- lines of other kinds, with parts as they were
+  moved-none : (o p : Obligation) (ls : List Line) → p .parts ≡ o .parts → total (quantityOf 3 n) ls ≡ 0 → total (quantityOf 4 n) ls ≡ 0 →
+      Moved n o (record { obligation = p; lines = ls })
+  moved-none o p ls e x y = record {
+    delivered = ap (λ (q : Parts). q .delivered) e;
+    cancelled = ap (λ (q : Parts). q .cancelled) e;
+    bought-in = omega (arith, ap (λ (q : Parts). q .«bought_in») e);
+    compensated = omega (arith, ap (λ (q : Parts). q .compensated) e);
+  }
+
+  -- what two parts move is what the lines of both say
+  moved-then : (o : Obligation) (m : Made) (f : Obligation → Made) → Moved n o m → Moved n (m .obligation) (f (m .obligation)) → Moved n o (then m f)
+  unfolding then
+  moved-then o m f a b =
+      let ls : List Line = f (m .obligation) .lines in
+      record {
+        delivered = b .delivered ∙ a .delivered;
+        cancelled = b .cancelled ∙ a .cancelled;
+        bought-in = omega (arith, total-append (quantityOf 3 n) (m .lines) ls);
+        compensated = omega (arith, total-append (quantityOf 4 n) (m .lines) ls);
+      }
+
+  part-nothing : (o : Obligation) → Part n o (nothing o)
+  unfolding total
+  part-nothing o = record { moved = moved-none o o [] refl refl refl; behind = nobody }
+
+  part-then : (o : Obligation) (m : Made) (f : Obligation → Made) → Part n o m → Part n (m .obligation) (f (m .obligation)) → Part n o (then m f)
+  unfolding then
+  part-then o m f a b = record { moved = moved-then o m f (a .moved) (b .moved); behind = every-append (a .behind) (b .behind) }
+
+  notice-part : (terms : Terms) (age : ℕ) (o : Obligation) → Part n o (noticeAt terms age n o)
+  unfolding noticeAt total quantityOf
+  notice-part terms age o =
+      pick-case (Part n o) (eqb age (terms .notice .0)) _ _
+      (λ e. record { moved = moved-none o o _ refl refl refl; behind = also (record { own = refl; no-penalty = refl }) nobody })
+      (λ e. part-nothing o)
+
+  bought-from-part : (g : Given) (o : Obligation) → Part n o (boughtFrom n g o)
+  unfolding boughtFrom buyingIn total quantityOf
+  bought-from-part g o =
+      record {
+        moved = record { delivered = refl; cancelled = refl; bought-in = rw (eq-eqb n n refl) (omega arith); compensated = omega arith };
+        behind = also (record { own = refl; no-penalty = refl }) nobody;
+      }
+
+  bought-part : (gs : List Given) (o : Obligation) → Part n o (boughtAll n gs o)
+  unfolding boughtAll
+  bought-part [] o = part-nothing o
+  bought-part (g ∷ gs) o =
+      part-then o (boughtFrom n g o) (boughtAll n gs) (bought-from-part g o) (bought-part gs (boughtFrom n g o .obligation))
+
+  buy-in-part : (terms : Terms) (age : ℕ) (offers : List Offer) (o : Obligation) → Part n o (buyInAt terms age offers n o)
+  unfolding buyInAt
+  buy-in-part terms age offers o =
+      pick-case (Part n o) (inBuyIn terms age) _ _
+      (λ e. bought-part (given n (o .parts .outstanding) offers) o)
+      (λ e. part-nothing o)
+
+  compensated-part : (price : ℕ) (o : Obligation) → Part n o (compensated price n o)
+  unfolding compensated compensating total quantityOf
+  compensated-part price o =
+      pick-case (Part n o) (eqb (o .parts .outstanding) 0) _ _
+      (λ e. part-nothing o)
+      (λ e. record {
+        moved = record { delivered = refl; cancelled = refl; bought-in = omega arith; compensated = rw (eq-eqb n n refl) (omega arith) };
+        behind = also (record { own = refl; no-penalty = refl }) nobody;
+      })
+
+  compensated-at-part : (terms : Terms) (age price : ℕ) (o : Obligation) → Part n o (compensatedAt terms age price n o)
+  unfolding compensatedAt
+  compensated-at-part terms age price o =
+      pick-case (Part n o) (eqb age (terms .last .0)) _ _ (λ e. compensated-part price o) (λ e. part-nothing o)
+
+-- ---- all parts of a Close together
+-- what stays with each part that comes after the penalty
+abbrev pub Stays : ℕ → (Made → Type 0) → Type 0
+Stays n P = (x : Made) (f : Obligation → Made) → P x → Part n (x .obligation) (f (x .obligation)) → P (then x f)
+
+module _ (d : DayEnd) (offers : List Offer) (n : ℕ) (o : Obligation) where
+  -- the first part, at an age
+  abbrev pub fine : ℕ → Made
+  fine age = penalised n (d .price) (d .rate) (priced (d .terms) age (d .price) o)
+
+  -- what holds of the penalty and stays holds of all parts
+  stages-by : (P : Made → Type 0) → Stays n P → (age : ℕ) → P (fine age) → P (stages d age offers n o)
+  unfolding stages
+  stages-by P more age p =
+      let noticed : Made = then (fine age) (noticeAt (d .terms) age n) in
+      let bought : Made = then noticed (buyInAt (d .terms) age offers n) in
+      let q = more (fine age) (noticeAt (d .terms) age n) p (notice-part n (d .terms) age (fine age .obligation)) in
+      let r = more noticed (buyInAt (d .terms) age offers n) q (buy-in-part n (d .terms) age offers (noticed .obligation)) in
+      more bought (compensatedAt (d .terms) age (d .price) n) r (compensated-at-part n (d .terms) age (d .price) (bought .obligation))
+
+  -- a fact of a Close, by whether the obligation is due
+  pub closed-by : (P : Bool → Made → Type 0) → Stays n (P true) → ((age : ℕ) → P true (fine age)) → P false (nothing o) → P (isDue (d .today) o) (closedOne d offers n o)
+  unfolding closedOne
+  closed-by P more p q = by (isDue (d .today) o) (ageAt (closedListed (d .closed)) (o .day) (d .today) .0)
+    where
+      by : (t : Bool) (age : ℕ) → P t (pick t (stages d age offers n o) (nothing o))
+      by true age = stages-by (P true) more age (p age)
+      by false age = q
+
+  -- what it moves is what its lines say
+  pub closed-moved : Moved n o (closedOne d offers n o)
+  unfolding penalised total quantityOf
+  closed-moved =
+      closed-by (λ t. Moved n o) (λ x f a p. moved-then n o x f a (p .moved))
+      (λ age. moved-none n o (fine age .obligation) (fine age .lines) (priced-parts (d .terms) age (d .price) o) refl refl)
+      (part-nothing n o .moved)
+
+  -- its lines are of its own obligation
+  closed-own : Every (λ l. l .obligation ≡ n) (closedOne d offers n o .lines)
+  unfolding then penalised
+  closed-own =
+      closed-by (λ t (x : Made). Every (λ l. l .obligation ≡ n) (x .lines))
+      (λ x f a p. every-append a (every-map (λ (l : Line) (b : Behind n l). b .own) (p .behind)))
+      (λ age. also refl nobody)
+      nobody
+
+  -- its lines say nothing of another obligation
+  pub closed-others : (kind k : ℕ) → (n ≡ k → ⊥) → total (quantityOf kind k) (closedOne d offers n o .lines) ≡ 0
+  closed-others kind k h =
+      total-none (quantityOf kind k) (every-map (λ (l : Line) (e : l .obligation ≡ n). other-none kind k l (λ x. h (sym e ∙ x))) closed-own)
+
+-- ---- all obligations
+module _ (d : DayEnd) (offers : List Offer) (os : List Obligation) where
+  -- of all lines, none is of an obligation that is behind them
+  pub reported-none : (n kind k : ℕ) → n ≤ k → total (quantityOf kind k) (linesUpTo d offers os n) ≡ 0
+  unfolding linesUpTo total
+  reported-none zero kind k h = refl
+  reported-none (suc n) kind k h =
+      omega (
+        arith,
+        total-append (quantityOf kind k) (linesUpTo d offers os n) (closedAt d offers os n .lines),
+        reported-none n kind k (omega arith),
+        closed-others d offers n (getD os n noObligation) kind k (omega arith),
+      )
+
+  -- of all lines, those of obligation k are the lines of its own Close
+  pub reported-one : (n kind k : ℕ) → k < n → total (quantityOf kind k) (linesUpTo d offers os n) ≡ total (quantityOf kind k) (closedAt d offers os k .lines)
+  unfolding linesUpTo
+  reported-one zero kind k h = absurd (omega arith)
+  reported-one (suc n) kind k h =
+      let e = total-append (quantityOf kind k) (linesUpTo d offers os n) (closedAt d offers os n .lines) in
+      let said : ℕ → ℕ = λ j. total (quantityOf kind k) (closedAt d offers os j .lines) in
+      ⊎-elim (λ (q : k ≡ n). omega (arith, reported-none n kind k (omega arith), ap said q))
+      (λ (q : k < n). omega (arith, reported-one n kind k q, closed-others d offers n (getD os n noObligation) kind k (omega arith)))
+      (last-or-below k n h)
+
+-- ---- the words of lines
+flat-back : (ls : List Line) (ws : List ℕ) → linesRead (length ls) (flat ls ++ ws) ≡ ls
+unfolding linesRead flat
+flat-back [] ws = refl
+flat-back (l ∷ ls) ws = ap (λ (ms : List Line). l ∷ ms) (flat-back ls ws)
+
+-- lines written at the front of a list are read back, whatever stands behind them
+pub lines-back : (ls : List Line) (ws : List ℕ) → linesRead (length ls) (written ls ws) ≡ ls
+unfolding written
+lines-back ls ws = flat-back ls (drop (length (flat ls)) ws)

@@ -1,0 +1,7 @@
+-- Whole journals. Calls: the calls and what came of them. Played: what the rules give for a list of calls. Effects: what
+-- one event adds to a journal. Sums: the sums over a journal. Promise: what is promised of every journal.
+pub mod Calls
+pub mod Played
+pub mod Effects
+pub mod Sums
+pub mod Promise

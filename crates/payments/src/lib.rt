@@ -1,0 +1,81 @@
+// Month: what is collected from the members that owe, and paid out to those that claim.
+ghost use mathlib.Core.Path.{_≡_};
+ghost use lib.ListN.{length};
+ghost use lib.IntN.{pos};
+ghost use Rattle.netting.specs.Accounts.{Bounded, balance};
+ghost use Rattle.payments.specs.Month.{badLists, overCollected, monthNumber, paidOut};
+
+// Whether a list is not of 32.
+fn are_bad_lists(collected: usize, places: usize) -> bool
+    ensures { λ r. ⌜ r ≡ badLists collected places ⌝ }
+{
+    if collected != 32 {
+        return true;
+    }
+    places != 32
+}
+
+// A list of 32 amounts as an array.
+fn amounts_of(list: &[u64]) -> [u64; 32]
+    requires { ⌜ length (now list) ≡ 32 ⌝ }
+    ensures { λ r. ⌜ r ≡ now (list .entry) ⌝ }
+{
+    let mut amounts = [0u64; 32];
+    let mut m = 0;
+    while m < 32 {
+        amounts[m] = list[m];
+        m += 1;
+    }
+    amounts
+}
+
+// Whether an amount is above what its member owes.
+fn is_over(accounts: [i64; 32], collected: [u64; 32]) -> bool
+    requires { ⌜ Bounded accounts ⌝ }
+    ensures { λ r. ⌜ r ≡ overCollected accounts collected ⌝ }
+{
+    let mut m = 0;
+    while m < 32 {
+        let account = accounts[m];
+        if netting::owed_by(account) < collected[m] {
+            return true;
+        }
+        m += 1;
+    }
+    false
+}
+
+// The shares are laid in the places for payouts.
+fn pay(shares: [u64; 32], places: &mut [u64])
+    requires { ⌜ length (now places) ≡ 32 ⌝ }
+    ensures { λ r. ⌜ now (places .exit) ≡ shares ⌝ }
+{
+    let mut m = 0;
+    while m < 32 {
+        places[m] = shares[m];
+        m += 1;
+    }
+}
+
+// Collects and pays out, or refuses; since is whether a Close came since Open or the last Month. Returns the answer
+// number.
+pub fn settle_month(accounts: [i64; 32], since: bool, collected: &[u64], places: &mut [u64]) -> u64
+    requires { ⌜ (Bounded accounts) × (balance accounts ≡ pos 0) ⌝ }
+    ensures { λ r. ⌜ r ≡ monthNumber accounts since (now (collected .entry)) (length (now (places .entry))) ⌝ }
+    ensures { λ r. ⌜ now (places .exit) ≡ paidOut accounts since (now (collected .entry)) (now (places .entry)) ⌝ }
+{
+    if are_bad_lists(collected.len(), places.len()) {
+        return 5;
+    }
+    let amounts = amounts_of(collected);
+    if is_over(accounts, amounts) {
+        return 19;
+    }
+    if since {} else {
+        return 21;
+    }
+    let total = netting::sum_of(amounts);
+    let shares = netting::shares_of(accounts, total);
+    pay(shares, places);
+    0
+}
