@@ -3,4 +3,5 @@ pub mod FreshBooks
 pub mod Kept
 pub mod Ended
 pub mod Paid
+pub mod Refused
 pub mod Answers

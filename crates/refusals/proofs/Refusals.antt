@@ -183,3 +183,28 @@ ahead-passed (r ∷ rs) more (also p s) e = by (r .holds) e (ahead-passed rs mor
         (pick t (r .number) (answer rs) ≡ 0) × (answer more ≡ 0)
     by true q f = absurd (omega arith)
     by false q f = f q
+
+-- ---- a call that answers by a list of refusals
+pub record Refuses (rs : List Refusal) (number : ℕ) : Type 0 where
+  pub printed : Printed rs
+  pub given : number ≡ answer rs
+
+-- it answers n exactly where n's condition holds and no smaller number's does, and is done exactly where none holds
+pub refuses-by : (rs : List Refusal) (number : ℕ) → Refuses rs number → (n : ℕ) → (n ≡ 0 → ⊥) → (number ≡ n) ↔ Smallest rs n
+refuses-by rs number r n z =
+    let f = answer-number rs n (r .printed) z in
+    (λ e. f .0 (sym (r .given) ∙ e), λ s. r .given ∙ f .1 s)
+
+pub refuses-none : (rs : List Refusal) (number : ℕ) → Refuses rs number → (number ≡ 0) ↔ NoneHolds rs
+refuses-none rs number r =
+    let f = answer-zero rs (r .printed) in
+    (λ e. f .0 (sym (r .given) ∙ e), λ s. r .given ∙ f .1 s)
+
+-- the number of an outcome is that of its list
+pub outcome-refuses : {A : Type 0} (number : A → ℕ) (rs : List Refusal) (done : A) (refused : ℕ → A) → risingFrom 0 rs ≡ true →
+    number done ≡ 0 → ((n : ℕ) → number (refused n) ≡ n) → Refuses rs (number (outcome (answer rs) done refused))
+outcome-refuses number rs done refused p d r = record { printed = is-printed rs p; given = by (eqb (answer rs) 0) refl }
+  where
+    by : (t : Bool) → eqb (answer rs) 0 ≡ t → number (pick t done (refused (answer rs))) ≡ answer rs
+    by true e = d ∙ sym (eqb-true (answer rs) 0 e)
+    by false e = r (answer rs)
