@@ -14,9 +14,9 @@ use Rattle.calendar.specs.declared.Day.{Day}
 use Rattle.calendar.specs.declared.NextDay.{NextDay}
 use Rattle.calendar.specs.declared.NextDay.the-variants.{At, Never}
 use Rattle.calendar.specs.Closed.{day, listed}
-use Rattle.calendar.specs.Days.{clearing, clearingWithin, ageAt}
+use Rattle.calendar.specs.Days.{clearing, ageAt}
 use Rattle.calendar.proofs.Next.{FirstAfter, next-at}
-use Rattle.calendar.proofs.Ages.{age-next}
+use Rattle.calendar.proofs.Ages.{age-early, age-next}
 use Rattle.amounts.specs.Amounts.{mostClosePrice, mostRate}
 use Rattle.ledger.specs.declared.Obligation.{Obligation}
 use Rattle.ledger.specs.declared.Ledger.{Ledger}
@@ -99,10 +99,6 @@ module _ (b : Book) (v : Valid b) (price rate : ℕ) (p : price ≤ mostClosePri
     abbrev older : Obligation → ℕ
     older o = ageAt (listed (b .closed)) (o .day) next .0
 
-    early-age : (o : Obligation) → next .0 ≤ o .day .0 → older o ≡ 0
-    unfolding ageAt clearingWithin
-    early-age o h = let e : next .0 - o .day .0 ≡ 0 = omega arith in rw e
-
     -- what is outstanding after the Close has not come to the last day
     still-young : (n : ℕ) → n < l .count → 1 ≤ after n .parts .outstanding → older (after n) ≤ b .terms .last .0
     unfolding ageOf isDue
@@ -112,7 +108,7 @@ module _ (b : Book) (v : Valid b) (price rate : ℕ) (p : price ≤ mostClosePri
         let young = v .young n h (omega (arith, g .later .less)) in
         let same : older (after n) ≡ older o = ap (λ (j : Day). ageAt (listed (b .closed)) j next .0) (g .later .day) in
         ⊎-elim
-        (λ (z : b .today .0 < o .day .0). omega (arith, same, early-age o (not-before (o .day) (v .day-clears n h) z)))
+        (λ (z : b .today .0 < o .day .0). omega (arith, same, age-early (listed (b .closed)) (o .day) next (not-before (o .day) (v .day-clears n h) z)))
         (λ (z : o .day .0 ≤ b .today .0).
         let due : isDue (b .today) o ≡ true = rw (le-leb (o .day .0) (b .today .0) z, lt-ltb 0 (o .parts .outstanding) (omega (arith, g .later .less))) in
         let one = age-next (listed (b .closed)) (o .day) (b .today) next z q in

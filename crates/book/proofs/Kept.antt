@@ -10,7 +10,8 @@ use Rattle.basics.proofs.Cases.{pick-case, or-false}
 use Rattle.basics.proofs.Places.{set-case}
 use Rattle.calendar.specs.declared.Day.{Day}
 use Rattle.calendar.specs.Closed.{listed}
-use Rattle.calendar.specs.Days.{clearing, clearingWithin, ageAt}
+use Rattle.calendar.specs.Days.{clearing, ageAt}
+use Rattle.calendar.proofs.Ages.{age-early}
 use Rattle.amounts.specs.Amounts.{mostQuantity, mostAmount, mostOfferPrice}
 use Rattle.instructions.specs.declared.LegState.the-variants.{Withdrawn, Matched}
 use Rattle.instructions.specs.declared.Leg.{Leg}
@@ -182,8 +183,8 @@ module _ (b : Book) (v : Valid b) where
 
   -- the age of what is not due before today is 0
   fresh-age : (o : Obligation) → b .today .0 ≤ o .day .0 → ageOf b o ≡ 0
-  unfolding ageOf ageAt clearingWithin
-  fresh-age o h = let e : b .today .0 - o .day .0 ≡ 0 = omega arith in rw e
+  unfolding ageOf
+  fresh-age o h = age-early (listed (b .closed)) (o .day) (b .today) h
 
   -- the obligation of two legs that fit
   made-sound : (new old : Leg) → Good new → SoundLeg old → fits old new ≡ true → Sound (obligationOf new old)

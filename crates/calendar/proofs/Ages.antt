@@ -62,6 +62,11 @@ module _ (cs : List Day) where
       let w : counted j (e - 1 + 1) ≡ counted j (e - 1) + 1 = within-more cs j (e - 1) (omega (arith, f .later)) ∙ rw t in
       omega (arith, w, ap (counted j) s, quiet-to j d (e - 1) h (omega (arith, f .later)) (f .first))
 
+  -- before the settlement day, and on it, the age is 0
+  pub age-early : (j today : Day) → today .0 ≤ j .0 → ageAt cs j today .0 ≡ 0
+  unfolding ageAt clearingWithin
+  age-early j today h = let e : today .0 - j .0 ≡ 0 = omega arith in rw e
+
   -- the age at the next clearing day is one more
   pub age-next : (j today next : Day) → j .0 ≤ today .0 → nextAfter cs today ≡ At next → ageAt cs j next .0 ≡ ageAt cs j today .0 + 1
   unfolding ageAt

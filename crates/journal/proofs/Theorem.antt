@@ -58,7 +58,7 @@ use Rattle.journal.proofs.Demand3.{after, Ran, StatusCalled, AccountCal
 use Rattle.journal.proofs.Demand3.Ran.{opened, entered, withdrew, cancelled, delivered, offered, closed, settled}
 
 -- ---- by its contract, a call does what a step of the model does
-known : {s : Run} → Ran s → Known s
+pub known : {s : Run} → Ran s → Known s
 known (opened first κs ds terms r x h) =
     let o : Opening = record { first = first; closed = now ds; terms = terms } in
     subst⁻¹ Known (ap (λ (y : Opened). record { opening = o; book = y .book; past = [] }) (h .0)) (begun-known o)

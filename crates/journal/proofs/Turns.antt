@@ -14,7 +14,7 @@ use Rattle.basics.proofs.Cases.{below-or-not}
 use Rattle.calendar.specs.declared.Day.{Day}
 use Rattle.calendar.specs.declared.NextDay.the-variants.{At}
 use Rattle.calendar.specs.Closed.{listed}
-use Rattle.calendar.specs.Days.{clearingWithin, ageAt}
+use Rattle.calendar.proofs.Ages.{age-early}
 use Rattle.amounts.specs.Amounts.{mostClosePrice, mostRate}
 use Rattle.offers.specs.declared.Offer.{Offer}
 use Rattle.offers.specs.Held.{listed as listedOffers}
@@ -82,12 +82,11 @@ module _ (b : Book) (v : Valid b) (price rate : ℕ) (p : price ≤ mostClosePri
 
   -- at age = last the settlement day was reached
   reached : (o : Obligation) → ageOf b o ≡ b .terms .last .0 → o .day .0 ≤ b .today .0
-  unfolding ageOf ageAt clearingWithin
+  unfolding ageOf
   reached o e =
       ⊎-elim
       (λ (z : b .today .0 < o .day .0).
-      let none-yet : b .today .0 - o .day .0 ≡ 0 = omega arith in
-      let age : clearingWithin (listed (b .closed)) (o .day .0) (b .today .0 - o .day .0) ≡ 0 = rw none-yet in
+      let age = age-early (listed (b .closed)) (o .day) (b .today) (omega arith) in
       absurd (omega (arith, e, age, v .notice-before, v .grace-before)))
       (λ (z : o .day .0 ≤ b .today .0). z)
       (below-or-not (b .today .0) (o .day .0))

@@ -1,7 +1,9 @@
 -- Whole journals. Calls: the calls and what came of them. Played: what the rules give for a list of calls. Effects: what
--- one event adds to a journal. Sums: the sums over a journal. Promise: what is promised of every journal.
+-- one event adds to a journal. Sums: the sums over a journal. History: what a book stores, by the events alone. Promise:
+-- what is promised of every journal.
 pub mod Calls
 pub mod Played
 pub mod Effects
 pub mod Sums
+pub mod History
 pub mod Promise

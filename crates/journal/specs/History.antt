@@ -1,0 +1,148 @@
+-- What a book stores, said by its Open and the events alone. Events stand the latest first.
+use Prim.Native.Nat.{ℕ, _-_}
+use mathlib.Core.Bool.{Bool, true, false, _&&_, _||_, not}
+use mathlib.Core.List.{List, [], _∷_, _++_}
+use mathlib.Core.Option.{Option, none, some}
+use lib.Dec.{eqb}
+use lib.ListN.{getD, set}
+use Rattle.basics.specs.Choice.{pick}
+use Rattle.calendar.specs.declared.Day.{Day}
+use Rattle.calendar.specs.Closed.{listed}
+use Rattle.calendar.specs.Days.{ageAt}
+use Rattle.offers.specs.declared.Offer.{Offer}
+use Rattle.instructions.specs.declared.Leg.{Leg}
+use Rattle.instructions.specs.declared.LegState.{LegState}
+use Rattle.instructions.specs.declared.LegState.the-variants.{Withdrawn, Matched}
+use Rattle.instructions.specs.declared.Fit.{Fit}
+use Rattle.instructions.specs.declared.Fit.the-variants.{With, Nobody}
+use Rattle.instructions.specs.Legs.{noLeg, inState}
+use Rattle.instructions.specs.Match.{firstFit}
+use Rattle.book.specs.Instructing.{newLeg}
+use Rattle.journal.specs.Calls.{Opening, Call, enter, withdraw, cancel, deliver, offer, close, month, Event}
+use Rattle.journal.specs.Effects.{Deal, accepted, effect}
+use Rattle.journal.specs.Sums.{closedIn, termsIn, todayIn, orElse, dealIn, isMonth}
+
+-- ---- what one event leaves for later
+-- 01, Enter and Withdraw: what a call does to the legs: it enters one, and these are the two numbers that it returned, or
+-- it withdraws one
+pub data LegChange : Type 0 where
+  enters : (leg obligation : ℕ) → Leg → LegChange
+  withdraws : ℕ → LegChange
+  neither : LegChange
+
+-- what an event leaves beside what it adds to the sums: what it does to the legs, whether it is member m's wish to cancel
+-- obligation n, the offers that it enters, and its price if it is a Close
+pub record Trace : Type 0 where
+  pub legs : LegChange
+  pub wishes : ℕ → ℕ → Bool
+  pub offers : List Offer
+  pub price : ℕ
+
+-- nothing is left
+abbrev pub noTrace : Trace
+noTrace = record { legs = neither; wishes = λ n m. false; offers = []; price = 0 }
+
+-- an Enter or a Withdraw changes the legs
+abbrev pub onlyLegs : LegChange → Trace
+onlyLegs c = record { legs = c; wishes = λ n m. false; offers = []; price = 0 }
+
+-- what an accepted call leaves, by its results
+abbrev pub traceOf : Call → List ℕ → Trace
+traceOf (enter member other side q a j) rs = onlyLegs (enters (getD rs 0 0) (getD rs 1 0) (newLeg member other side q a j))
+traceOf (withdraw leg member) rs = onlyLegs (withdraws leg)
+traceOf (cancel k member) rs = record { legs = neither; wishes = λ n m. eqb k n && eqb member m; offers = []; price = 0 }
+traceOf (deliver k q) rs = noTrace
+traceOf (offer k supplier q price) rs = record {
+  legs = neither;
+  wishes = λ n m. false;
+  offers = record { obligation = k; supplier = supplier; quantity = q; price = price } ∷ [];
+  price = 0;
+}
+traceOf (close price rate lines) rs = record { legs = neither; wishes = λ n m. false; offers = []; price = price }
+traceOf (month collected payouts) rs = noTrace
+
+-- what an event leaves: a refused call leaves nothing
+abbrev pub trace : Event → Trace
+trace e = pick (accepted e) (traceOf (e .call) (e .results)) noTrace
+
+-- ---- Close
+-- 01, Refusals, 21: whether a Close was accepted since the start or the last accepted Month
+unfoldable pub closeSinceIn : List Event → Bool
+closeSinceIn [] = false
+closeSinceIn (e ∷ es) = pick (effect e .turns) true (pick (isMonth (effect e .collects)) false (closeSinceIn es))
+
+-- 01, Buy-in, the cap: today is the day at which the age of a deal is grace
+abbrev pub isGraceDay : Opening → Day → Option Deal → Bool
+isGraceDay o today none = false
+isGraceDay o today (some i) = eqb (ageAt (listed (closedIn o)) (i .day) today .0) (termsIn o .grace .0)
+
+-- 01, Buy-in, the cap: the price of the accepted Close at age = grace of an obligation, which is its age on the day that
+-- the Close ends; 0 before one
+unfoldable pub gracePriceIn : Opening → ℕ → List Event → ℕ
+gracePriceIn o n [] = 0
+gracePriceIn o n (e ∷ es) =
+    pick (effect e .turns && isGraceDay o (todayIn o es) (dealIn n es)) (trace e .price) (gracePriceIn o n es)
+
+-- 01, Buy-in: offers last until today's Close; those of today in the order of entry, the latest first
+unfoldable pub offersIn : List Event → List Offer
+offersIn [] = []
+offersIn (e ∷ es) = pick (effect e .turns) [] (trace e .offers ++ offersIn es)
+
+-- ---- Cancel
+-- 01, Cancel: whether an accepted Cancel of obligation n by member m is among the events
+unfoldable pub wishedIn : ℕ → ℕ → List Event → Bool
+wishedIn n m [] = false
+wishedIn n m (e ∷ es) = trace e .wishes n m || wishedIn n m es
+
+-- ---- Enter and Withdraw
+-- leg k of these legs goes into another state
+abbrev pub legIntoState : ℕ → LegState → List Leg → List Leg
+legIntoState k state ls = set ls k (inState state (getD ls k noLeg))
+
+-- 01, Enter: the legs after an Enter that returned this for its obligation, by the leg that fits: the new leg waits, or
+-- both are matched to the obligation
+abbrev pub legsWith : Leg → ℕ → Fit → List Leg → List Leg
+legsWith new obligation Nobody ls = ls ++ new ∷ []
+legsWith new obligation (With k) ls =
+    legIntoState k (Matched (obligation - 1)) ls ++ inState (Matched (obligation - 1)) new ∷ []
+
+-- 01, Enter and Withdraw: what a change makes of the legs; a new leg matches the lowest waiting leg that fits
+abbrev pub legsAfter : LegChange → List Leg → List Leg
+legsAfter (enters leg obligation new) ls = legsWith new obligation (firstFit new 0 ls) ls
+legsAfter (withdraws k) ls = legIntoState k Withdrawn ls
+legsAfter neither ls = ls
+
+-- 01, Instructions: the legs entered so far, numbered from 0, each waiting, withdrawn or matched
+unfoldable pub legsIn : List Event → List Leg
+legsIn [] = []
+legsIn (e ∷ es) = legsAfter (trace e .legs) (legsIn es)
+
+-- 01, Enter: the leg that a change enters under number n
+abbrev pub enteredAs : ℕ → LegChange → Option Leg
+enteredAs n (enters leg obligation new) = pick (eqb leg n) (some new) none
+enteredAs n (withdraws k) = none
+enteredAs n neither = none
+
+-- 01, Enter: leg n as it was instructed, if an accepted Enter returned its number
+unfoldable pub legIn : ℕ → List Event → Option Leg
+legIn n [] = none
+legIn n (e ∷ es) = orElse (enteredAs n (trace e .legs)) (legIn n es)
+
+-- whether leg n is the one that fits
+abbrev pub isFit : ℕ → Fit → Bool
+isFit n Nobody = false
+isFit n (With k) = eqb k n
+
+-- 01, Enter and Withdraw: whether leg n waits after a change, where these are the legs before it and this is whether it
+-- waited then: a leg that is entered waits unless its Enter returned an obligation, and any other waits on unless it is
+-- withdrawn or a new leg matches it
+abbrev pub waitsAfter : ℕ → LegChange → List Leg → Bool → Bool
+waitsAfter n (enters leg obligation new) ls waited = pick (eqb leg n) (eqb obligation 0) (not (isFit n (firstFit new 0 ls)) && waited)
+waitsAfter n (withdraws k) ls waited = not (eqb k n) && waited
+waitsAfter n neither ls waited = waited
+
+-- 01, Instructions: whether leg n waits: an accepted Enter returned it and matched it with none, and since then no accepted
+-- Withdraw named it and no accepted Enter matched it
+unfoldable pub waitingIn : ℕ → List Event → Bool
+waitingIn n [] = false
+waitingIn n (e ∷ es) = waitsAfter n (trace e .legs) (legsIn es) (waitingIn n es)
