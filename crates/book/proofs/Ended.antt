@@ -208,9 +208,9 @@ close-valid b v price rate ws =
         (let g = number-given b price rate ws e in closed-valid b v price rate (g .price-most) (g .rate-most) next q)
 
 -- the lines fit the list
-pub close-fits : (b : Book) → Valid b → (price rate : ℕ) (ws : List ℕ) → 6 * close b price rate (length ws) .count ≤ length ws
+pub close-fits : (b : Book) (price rate : ℕ) (ws : List ℕ) → Valid b → 6 * close b price rate (length ws) .count ≤ length ws
 unfolding close
-close-fits b v price rate ws =
+close-fits b price rate ws v =
     outcome-case (λ (x : Closed). 6 * x .count ≤ length ws) _ _ (closeRefused b) (λ k. omega arith)
     (λ e.
     omega (

@@ -1,2 +1,2 @@
--- Laws that the program rests on: how long an answer is.
+-- Laws that the program rests on. Lengths: how long what is written is.
 pub mod Lengths

@@ -1,2 +1,2 @@
+-- What the program keeps from line to line. Room: places in its buffers.
 pub mod Room
-pub mod Ready

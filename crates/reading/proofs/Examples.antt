@@ -1,0 +1,77 @@
+-- Lines of a journal, each with what it says.
+use Prim.Native.Nat.{_^_, _-_}
+use mathlib.Core.Path.{_≡_, refl}
+use mathlib.Core.Bool.{true, false}
+use mathlib.Core.List.{[], _∷_}
+use mathlib.Core.Option.{none, some}
+use lib.IntN.{negsuc}
+use Rattle.writing.specs.Digits.{digitsWithin, digitsOf, signedOf}
+use Rattle.reading.specs.Numbers.{isDigit, onlyDigits, valueFrom, numberOf}
+use Rattle.reading.specs.Words.{firstWord, furtherWords, wordsOf}
+use Rattle.reading.specs.Calls.{sameWord, namings, found, nameOf, counted, listsOf, listable, shapeRight, withNumber, numbersOf}
+use Rattle.reading.specs.Lines.{isComment, callWith, meaningOf}
+use Rattle.reading.specs.Lines.Meaning.{call, no-call}
+use Rattle.reading.specs.declared.Name.the-variants.{Open, Close, Month, Look}
+
+-- 007 is 7
+zeros-in-front : numberOf (48 ∷ 48 ∷ 55 ∷ []) ≡ some 7
+unfolding isDigit onlyDigits valueFrom numberOf
+zeros-in-front = refl
+
+-- an empty word is no number
+empty-word : numberOf [] ≡ none
+unfolding isDigit onlyDigits valueFrom numberOf
+empty-word = refl
+
+-- 18446744073709551615 is the largest number
+largest : numberOf (digitsOf (2 ^ 64 - 1)) ≡ some (2 ^ 64 - 1)
+unfolding isDigit onlyDigits valueFrom numberOf digitsWithin digitsOf
+largest = refl
+
+-- 18446744073709551616 is none
+too-large : numberOf (digitsOf (2 ^ 64)) ≡ none
+unfolding isDigit onlyDigits valueFrom numberOf digitsWithin digitsOf
+too-large = refl
+
+-- -120
+negative : signedOf (negsuc 119) ≡ 45 ∷ 49 ∷ 50 ∷ 48 ∷ []
+unfolding digitsWithin digitsOf signedOf
+negative = refl
+
+-- look 31
+a-look : meaningOf (108 ∷ 111 ∷ 111 ∷ 107 ∷ 32 ∷ 51 ∷ 49 ∷ []) ≡ call Look (31 ∷ [])
+unfolding isDigit onlyDigits valueFrom numberOf firstWord furtherWords sameWord namings found nameOf counted listsOf
+    listable shapeRight withNumber numbersOf isComment callWith meaningOf
+a-look = refl
+
+-- look with two spaces
+two-spaces : meaningOf (108 ∷ 111 ∷ 111 ∷ 107 ∷ 32 ∷ 32 ∷ 51 ∷ []) ≡ no-call
+unfolding isDigit onlyDigits valueFrom numberOf firstWord furtherWords sameWord namings found nameOf counted listsOf
+    listable shapeRight withNumber numbersOf isComment callWith meaningOf
+two-spaces = refl
+
+-- a space at the end makes an empty word
+space-behind : wordsOf (51 ∷ 32 ∷ []) ≡ (51 ∷ []) ∷ [] ∷ []
+unfolding firstWord furtherWords wordsOf
+space-behind = refl
+
+-- a blank before #
+blank-before : meaningOf (32 ∷ 35 ∷ []) ≡ no-call
+unfolding isDigit onlyDigits valueFrom numberOf firstWord furtherWords sameWord namings found nameOf counted listsOf
+    listable shapeRight withNumber numbersOf isComment callWith meaningOf
+blank-before = refl
+
+-- month 2 5 6 3 9: two amounts, and three places
+a-month : shapeRight Month (2 ∷ 5 ∷ 6 ∷ 3 ∷ 9 ∷ []) ≡ true
+unfolding counted listsOf listable shapeRight
+a-month = refl
+
+-- open 7 10 1: its one closed day is missing
+day-missing : shapeRight Open (7 ∷ 10 ∷ 1 ∷ []) ≡ false
+unfolding counted listsOf listable shapeRight
+day-missing = refl
+
+-- close 1 2 4097 0: the list is too long
+list-too-long : shapeRight Close (1 ∷ 2 ∷ 4_097 ∷ 0 ∷ []) ≡ false
+unfolding counted listsOf listable shapeRight
+list-too-long = refl

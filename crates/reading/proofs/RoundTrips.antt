@@ -1,0 +1,202 @@
+-- What is written reads back: numbers, words, and whole calls.
+use Prim.Native.Nat.{ℕ, zero, suc, _+_, _*_, _/_, _%_, _^_, _≤_, _<_}
+use native.Mathlib.Nat.{div-add-mod'}
+use native.Mathlib.Omega.{arith}
+use mathlib.Core.Path.{_≡_, refl, ap, _∙_}
+use mathlib.Core.Bool.{Bool, true, false}
+use mathlib.Core.List.{List, [], _∷_, _++_, map, append-nil}
+use mathlib.Core.Option.{some}
+use lib.Dec.{eqb, ltb}
+use lib.ListN.{length}
+use borrow.Author.Tests.{ne-eqb, lt-ltb, le-ltb, eqb-true, eqb-false, ltb-true}
+use Rattle.basics.specs.Choice.{pick}
+use Rattle.basics.specs.Lists.{Every}
+use Rattle.basics.specs.Lists.Every.{nobody, also}
+use Rattle.basics.proofs.Cases.{never, pick-case, and-true}
+use Rattle.basics.proofs.Everywhere.{every-map}
+use Rattle.writing.specs.Digits.{digit, digitsWithin, digitsOf}
+use Rattle.writing.specs.Words.{space, spaced, joined}
+use Rattle.writing.proofs.Digits.{tenth-below, digits-some}
+use Rattle.reading.specs.Numbers.{isDigit, onlyDigits, valueFrom, valueOf, numberOf}
+use Rattle.reading.specs.Words.{firstWord, furtherWords, wordsOf}
+use Rattle.reading.specs.Calls.{Naming, sameWord, namings, found, nameOf, shapeRight, withNumber, numbersOf}
+use Rattle.reading.specs.Lines.{isComment, mostBytes, callWith, meaningOf}
+use Rattle.reading.specs.Lines.Meaning.{call}
+use Rattle.reading.proofs.Values.{value-append}
+
+value-last : (v d : ℕ) → valueFrom v (digit d ∷ []) ≡ v * 10 + d
+unfolding valueFrom
+value-last v d = omega arith
+
+-- the digits of a number have its value
+digits-value : (k n : ℕ) → n < 10 ^ suc k → valueOf (digitsWithin (suc k) n) ≡ n
+unfolding digitsWithin
+digits-value zero n h = rw (lt-ltb n 10 h) (value-last 0 n ∙ omega arith)
+digits-value (suc k) n h =
+    pick-case (λ (l : List ℕ). valueOf l ≡ n) (ltb n 10) _ _
+    (λ e. value-last 0 n ∙ omega arith)
+    (λ e. value-append 0 (digitsWithin (suc k) (n / 10)) (digit (n % 10) ∷ [])
+    ∙ ap (λ (v : ℕ). valueFrom v (digit (n % 10) ∷ [])) (digits-value k (n / 10) (tenth-below (suc k) n h))
+    ∙ value-last (n / 10) (n % 10)
+    ∙ div-add-mod' n 10)
+
+is-digit : (d : ℕ) → d < 10 → isDigit (digit d) ≡ true
+unfolding isDigit
+is-digit d h = rw (lt-ltb 47 (48 + d) (omega arith), lt-ltb (48 + d) 58 (omega arith))
+
+only-append : (xs ys : List ℕ) → onlyDigits xs ≡ true → onlyDigits ys ≡ true → onlyDigits (xs ++ ys) ≡ true
+unfolding onlyDigits
+only-append [] ys e f = f
+only-append (x ∷ xs) ys e f =
+    let both = and-true (isDigit x) (onlyDigits xs) e in
+    rw (both .0) (only-append xs ys (both .1) f)
+
+only-one : (d : ℕ) → d < 10 → onlyDigits (digit d ∷ []) ≡ true
+unfolding onlyDigits
+only-one d h = rw (is-digit d h)
+
+digits-only : (k n : ℕ) → onlyDigits (digitsWithin k n) ≡ true
+unfolding digitsWithin
+digits-only zero n = unfold onlyDigits in refl
+digits-only (suc k) n =
+    pick-case (λ (l : List ℕ). onlyDigits l ≡ true) (ltb n 10) _ _
+    (λ e. only-one n (ltb-true n 10 e))
+    (λ e. only-append (digitsWithin k (n / 10)) (digit (n % 10) ∷ []) (digits-only k (n / 10))
+    (only-one (n % 10) (omega arith)))
+
+-- a number that is written reads back
+pub digits-read : (n : ℕ) → n < 2 ^ 64 → numberOf (digitsOf n) ≡ some n
+unfolding numberOf digitsOf
+digits-read n h =
+    let v = digits-value 19 n (omega arith) in
+    rw (lt-ltb _ _ (digits-some 19 n), digits-only 20 n, v, lt-ltb n (2 ^ 64) h)
+
+-- words with one space between two are the line that they are the words of
+spaced-further : (bs : List ℕ) → firstWord bs ++ spaced (furtherWords bs) ≡ bs
+unfolding firstWord furtherWords spaced
+spaced-further [] = refl
+spaced-further (b ∷ bs) = by (eqb b space) refl (spaced-further bs)
+  where
+    by : (t : Bool) → eqb b space ≡ t → firstWord bs ++ spaced (furtherWords bs) ≡ bs
+        → pick t [] (b ∷ firstWord bs) ++ spaced (pick t (firstWord bs ∷ furtherWords bs) (furtherWords bs)) ≡ b ∷ bs
+    by true e rest = rw (eqb-true b space e) (ap (λ (l : List ℕ). space ∷ l) rest)
+    by false e rest = ap (λ (l : List ℕ). b ∷ l) rest
+
+pub words-joined : (line : List ℕ) → joined (wordsOf line) ≡ line
+unfolding wordsOf joined
+words-joined line = spaced-further line
+
+-- a word has no space
+abbrev pub Spaceless : List ℕ → Type 0
+Spaceless = Every (λ b. b ≡ space → ⊥)
+
+first-of : (w rest : List ℕ) → Spaceless w → firstWord (w ++ space ∷ rest) ≡ w
+unfolding firstWord
+first-of w rest nobody = refl
+first-of w rest (also {x = b} {xs = bs} p ps) = rw (ne-eqb b space p) (ap (λ (l : List ℕ). b ∷ l) (first-of bs rest ps))
+
+first-alone : (w : List ℕ) → Spaceless w → firstWord w ≡ w
+unfolding firstWord
+first-alone w nobody = refl
+first-alone w (also {x = b} {xs = bs} p ps) = rw (ne-eqb b space p) (ap (λ (l : List ℕ). b ∷ l) (first-alone bs ps))
+
+further-of : (w rest : List ℕ) → Spaceless w → furtherWords (w ++ space ∷ rest) ≡ firstWord rest ∷ furtherWords rest
+unfolding furtherWords
+further-of w rest nobody = refl
+further-of w rest (also {x = b} {xs = bs} p ps) = rw (ne-eqb b space p) (further-of bs rest ps)
+
+further-alone : (w : List ℕ) → Spaceless w → furtherWords w ≡ []
+unfolding furtherWords
+further-alone w nobody = refl
+further-alone w (also {x = b} {xs = bs} p ps) = rw (ne-eqb b space p) (further-alone bs ps)
+
+-- the words of a line that is made of words are these
+pub joined-words : (w : List ℕ) (ws : List (List ℕ)) → Spaceless w → Every Spaceless ws
+    → wordsOf (joined (w ∷ ws)) ≡ w ∷ ws
+unfolding wordsOf joined spaced
+joined-words w ws p nobody = rw (append-nil w, first-alone w p, further-alone w p)
+joined-words w ws p (also {x = v} {xs = vs} q qs) =
+    rw (first-of w (v ++ spaced vs) p, further-of w (v ++ spaced vs) p)
+    (ap (λ (l : List (List ℕ)). w ∷ l) (joined-words v vs q qs))
+
+-- a word that is its own first word has no space
+whole-spaceless : (w : List ℕ) → firstWord w ≡ w → Spaceless w
+unfolding firstWord
+whole-spaceless [] e = nobody
+whole-spaceless (b ∷ bs) e = by (eqb b space) refl e (whole-spaceless bs)
+  where
+    by : (t : Bool) → eqb b space ≡ t → pick t [] (b ∷ firstWord bs) ≡ b ∷ bs
+        → (firstWord bs ≡ bs → Spaceless bs) → Spaceless (b ∷ bs)
+    by true f g rest = absurd (let z : _≡_ {A = ℕ} 0 1 = cc in omega arith)
+    by false f g rest = also (eqb-false b space f) (rest (cc))
+
+digit-other : (b : ℕ) → isDigit b ≡ true → b ≡ space → ⊥
+unfolding isDigit
+digit-other b e f = never (rw f at e)
+
+digits-spaceless : (w : List ℕ) → onlyDigits w ≡ true → Spaceless w
+unfolding onlyDigits
+digits-spaceless [] e = nobody
+digits-spaceless (b ∷ bs) e =
+    let both = and-true (isDigit b) (onlyDigits bs) e in
+    also (digit-other b (both .0)) (digits-spaceless bs (both .1))
+
+-- numbers of 64 bits
+abbrev pub Numbers : List ℕ → Type 0
+Numbers = Every (λ n. n < 2 ^ 64)
+
+texts-spaceless : (ns : List ℕ) → Every Spaceless (map digitsOf ns)
+unfolding digitsOf
+texts-spaceless [] = nobody
+texts-spaceless (n ∷ ns) = also (digits-spaceless (digitsOf n) (digits-only 20 n)) (texts-spaceless ns)
+
+-- the numbers of written numbers are these
+pub texts-read : (ns : List ℕ) → Numbers ns → numbersOf (map digitsOf ns) ≡ some ns
+unfolding numbersOf withNumber
+texts-read ns nobody = refl
+texts-read ns (also {x = n} {xs = ms} p ps) = rw (digits-read n p, texts-read ms ps)
+
+-- what makes an entry of the table of names of use: its word names its call, is one word, and begins no comment
+abbrev Usable : Naming → Type 0
+Usable x =
+    (nameOf (x .word) ≡ some (x .name)) × (firstWord (x .word) ≡ x .word)
+    × ((rest : List ℕ) → isComment (x .word ++ rest) ≡ false)
+
+-- every name of the table is of use: no word of it stands for two calls
+pub usable : Every Usable namings
+unfolding sameWord namings found nameOf firstWord isComment
+usable =
+    also (refl, refl, λ r. refl)
+    (also (refl, refl, λ r. refl)
+    (also (refl, refl, λ r. refl)
+    (also (refl, refl, λ r. refl)
+    (also (refl, refl, λ r. refl)
+    (also (refl, refl, λ r. refl)
+    (also (refl, refl, λ r. refl)
+    (also (refl, refl, λ r. refl)
+    (also (refl, refl, λ r. refl)
+    (also (refl, refl, λ r. refl) (also (refl, refl, λ r. refl) nobody))))))))))
+
+-- a call as it is written: its name and its arguments, with one space between two
+abbrev pub written : Naming → List ℕ → List ℕ
+written x ns = joined (x .word ∷ map digitsOf ns)
+
+-- A call that is written is read as that call: of every name, with every arguments of its shape.
+pub WrittenReads : Naming → Type 0
+WrittenReads x =
+    (ns : List ℕ) → Numbers ns → shapeRight (x .name) ns ≡ true → length (written x ns) ≤ mostBytes
+    → meaningOf (written x ns) ≡ call (x .name) ns
+
+written-reads : (x : Naming) → Usable x → WrittenReads x
+unfolding WrittenReads meaningOf callWith
+written-reads x u ns small right short =
+    let words : firstWord (written x ns) ∷ furtherWords (written x ns) ≡ x .word ∷ map digitsOf ns =
+    unfold wordsOf in
+    joined-words (x .word) (map digitsOf ns) (whole-spaceless (x .word) (u .1)) (texts-spaceless ns) in
+    let first : firstWord (written x ns) ≡ x .word = cc in
+    let further : furtherWords (written x ns) ≡ map digitsOf ns = cc in
+    let starts : isComment (written x ns) ≡ false = unfold joined in u .2 (spaced (map digitsOf ns)) in
+    rw (starts, le-ltb mostBytes (length (written x ns)) short, first, further, u .0, texts-read ns small, right)
+
+pub calls-read : Every WrittenReads namings
+calls-read = every-map written-reads usable

@@ -1,0 +1,158 @@
+-- `read_line` meets its contract: what a line says is a law for each place where reading it ends.
+use Prim.Native.Nat.{ℕ}
+use native.Mathlib.Omega.{arith}
+use mathlib.Core.List.{List}
+use mathlib.Core.Path.{sym, _∙_}
+use borrow.Author.Needs.{needs}
+use Rattle.reading.proofs.Understanding.{Plain, Headed, empty-comment, hash-comment, too-long, word-length, word-behind, unnamed, alone, not-all, count-within, is-call, wrong-shape}
+use Rattle.reading.proofs.read_line.Statement.{statement}
+use Rattle.reading.proofs.read_line.Tie as tie
+
+-- past the tests of a comment and of the length
+plain : (c : tie.Else3) → Plain (c .before .before .before .before .before .before .args .line .now)
+plain c = record { filled = c .before .before .before .if1 .left; other = c .before .if2 .left; short = c .if3 .left }
+
+-- the line that is read
+abbrev line : tie.After-known-told → List ℕ
+line c = c .before .before .before .before .before .before .before .before .before .before .before .before .args .line .now
+
+-- past the name
+headed : (c : tie.After-known-told) → Headed (line c) (c .before .before .before .before .before .word-end .result) (c .before .name .given .0 .0)
+headed c = record {
+  plain = plain (c .before .before .before .before .before .before);
+  ends = c .before .before .before .before .before .word-end .ensures;
+  names = sym (c .before .name .given .1) ∙ c .before .before .before .name-of .ensures;
+}
+
+returns : tie.Need-returns
+returns c = empty-comment _ _ (c .if1 .taken)
+
+shared-slice-read-if2 : tie.Need-shared-slice-read-if2
+shared-slice-read-if2 c = search needs
+
+returns-2 : tie.Need-returns-2
+returns-2 c = hash-comment _ _ (c .before .before .if1 .left) (c .if2 .taken)
+
+returns-3 : tie.Need-returns-3
+returns-3 c = too-long _ _ (c .before .before .before .if1 .left) (c .before .if2 .left) (c .if3 .taken)
+
+word-end-requires : tie.Need-word-end-requires
+word-end-requires c κs = search needs
+
+slice-aggregate-name-of : tie.Need-slice-aggregate-name-of
+slice-aggregate-name-of c =
+    let end = c .before in
+    word-length (end .before .before .before .before .before .before .before .args .line .now) _ (end .word-end .ensures)
+
+name-of-requires : tie.Need-name-of-requires
+name-of-requires c κs = search needs
+
+enum-known-name : tie.Need-enum-known-name
+enum-known-name c = search needs
+
+enum-told : tie.Need-enum-told
+enum-told c = search needs
+
+returns-4 : tie.Need-returns-4
+returns-4 c =
+    let end = c .before .before .before .before in
+    unnamed _ _ _ (plain (end .before)) (end .word-end .ensures)
+    (sym (c .enum-told .given .1) ∙ c .before .before .name-of .ensures)
+
+returns-5 : tie.Need-returns-5
+returns-5 c = alone _ _ _ _ (headed (c .before)) (c .if4 .taken)
+
+add-read-numbers : tie.Need-add-read-numbers
+add-read-numbers c =
+    let name = c .before in
+    let start = name .before .before .before .before .before .before .before .before .before .before .before .before in
+    let within = word-behind (start .args .line .now) _ (name .before .before .before .before .before .word-end .ensures) (c .if4 .left) in
+    omega arith
+
+read-numbers-requires : tie.Need-read-numbers-requires
+read-numbers-requires c κs =
+    let name = c .before .before in
+    let start = name .before .before .before .before .before .before .before .before .before .before .before .before in
+    word-behind (start .args .line .now) _ (name .before .before .before .before .before .word-end .ensures) (c .before .if4 .left)
+
+enum-known-count : tie.Need-enum-known-count
+enum-known-count c = search needs
+
+enum-told-2 : tie.Need-enum-told-2
+enum-told-2 c = search needs
+
+same-length : tie.Need-same-length
+same-length c = search needs
+
+returns-6 : tie.Need-returns-6
+returns-6 c =
+    let name = c .before .before .before .before .before .before .before in
+    let numbers = c .before .before .before .before .read-numbers in
+    not-all _ _ _ _ (headed name) (c .before .before .before .before .before .before .if4 .left) _ (numbers .ensures .1)
+    (name .before .before .before .before .before .before .before .before .before .before .before .before .pre)
+    (sym (c .enum-told2 .given .1) ∙ numbers .ensures .0)
+
+has-shape-requires : tie.Need-has-shape-requires
+has-shape-requires c κs =
+    let name = c .before .before .before .before .before .before .before .before .before in
+    let start = name .before .before .before .before .before .before .before .before .before .before .before .before in
+    let numbers = c .before .before .before .before .before .before .read-numbers in
+    count-within _ (start .args .numbers .now) _ _ (headed name)
+    (c .before .before .before .before .before .before .before .before .if4 .left)
+    _
+    (numbers .ensures .1)
+    _
+    (sym (c .before .before .count .given .1) ∙ numbers .ensures .0)
+
+same-length-2 : tie.Need-same-length-2
+same-length-2 c = search needs
+
+returns-7 : tie.Need-returns-7
+returns-7 c =
+    let name = c .before .before .before .before .before .before .before .before .before .before .before in
+    let numbers = c .before .before .before .before .before .before .before .before .read-numbers in
+    is-call _ _ _ _ (headed name) (c .before .before .before .before .before .before .before .before .before .before .if4 .left) _
+    (numbers .ensures .1)
+    _
+    (sym (c .before .before .before .before .count .given .1) ∙ numbers .ensures .0)
+    (sym (c .before .has-shape .ensures) ∙ c .if5 .taken)
+
+same-length-3 : tie.Need-same-length-3
+same-length-3 c = search needs
+
+returns-8 : tie.Need-returns-8
+returns-8 c =
+    let name = c .before .before .before .before .before .before .before .before .before .before .before in
+    let numbers = c .before .before .before .before .before .before .before .before .read-numbers in
+    wrong-shape _ _ _ _ (headed name) (c .before .before .before .before .before .before .before .before .before .before .if4 .left) _
+    (numbers .ensures .1)
+    _
+    (sym (c .before .before .before .before .count .given .1) ∙ numbers .ensures .0)
+    (sym (c .before .has-shape .ensures) ∙ c .if5 .left)
+
+pub read-line-spec : {M : Type 1} → statement M
+read-line-spec =
+    tie.close
+    (tie.spec
+    returns
+    shared-slice-read-if2
+    returns-2
+    returns-3
+    word-end-requires
+    slice-aggregate-name-of
+    name-of-requires
+    enum-known-name
+    enum-told
+    returns-4
+    returns-5
+    add-read-numbers
+    read-numbers-requires
+    enum-known-count
+    enum-told-2
+    same-length
+    returns-6
+    has-shape-requires
+    same-length-2
+    returns-7
+    same-length-3
+    returns-8)

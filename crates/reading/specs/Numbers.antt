@@ -1,0 +1,34 @@
+-- Numbers as text: the value of a word of digits.
+use Prim.Native.Nat.{ℕ, _+_, _-_, _*_, _^_}
+use mathlib.Core.Bool.{Bool, true, _&&_}
+use mathlib.Core.List.{List, [], _∷_}
+use mathlib.Core.Option.{Option, none, some}
+use lib.Dec.{ltb}
+use lib.ListN.{length}
+use Rattle.basics.specs.Choice.{pick}
+
+-- whether a byte is a digit
+unfoldable pub isDigit : ℕ → Bool
+isDigit b = ltb 47 b && ltb b 58
+
+-- whether every byte of a word is a digit
+unfoldable pub onlyDigits : List ℕ → Bool
+onlyDigits [] = true
+onlyDigits (b ∷ bs) = isDigit b && onlyDigits bs
+
+-- the value of a word, read on from a value: each digit makes ten times what was read before, and the digit
+unfoldable pub valueFrom : ℕ → List ℕ → ℕ
+valueFrom v [] = v
+valueFrom v (b ∷ bs) = valueFrom (v * 10 + (b - 48)) bs
+
+-- the value of a word of digits
+abbrev pub valueOf : List ℕ → ℕ
+valueOf w = valueFrom 0 w
+
+-- A number is one or more digits, with any zeros in front, whose value fits 64 bits.
+abbrev pub isNumber : List ℕ → Bool
+isNumber w = ltb 0 (length w) && (onlyDigits w && ltb (valueOf w) (2 ^ 64))
+
+-- the number that a word is, if it is one
+unfoldable pub numberOf : List ℕ → Option ℕ
+numberOf w = pick (isNumber w) (some (valueOf w)) none

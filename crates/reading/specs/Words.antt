@@ -1,0 +1,21 @@
+-- Words: what stands between single spaces.
+use Prim.Native.Nat.{ℕ}
+use mathlib.Core.List.{List, [], _∷_}
+use lib.Dec.{eqb}
+use Rattle.basics.specs.Choice.{pick}
+use Rattle.writing.specs.Words.{space}
+
+-- the bytes up to the first space
+unfoldable pub firstWord : List ℕ → List ℕ
+firstWord [] = []
+firstWord (b ∷ bs) = pick (eqb b space) [] (b ∷ firstWord bs)
+
+-- the words behind the first space, none if there is no space
+unfoldable pub furtherWords : List ℕ → List (List ℕ)
+furtherWords [] = []
+furtherWords (b ∷ bs) = pick (eqb b space) (firstWord bs ∷ furtherWords bs) (furtherWords bs)
+
+-- Exactly one space stands between two words. So a space at either end, or a second space, makes an empty word, which
+-- is neither a name nor a number.
+unfoldable pub wordsOf : List ℕ → List (List ℕ)
+wordsOf bs = firstWord bs ∷ furtherWords bs

@@ -1,0 +1,145 @@
+-- `put_digits` meets its contract: the digits of a number's tenth part are written, by a call of itself, and then the
+-- last. The measure is the number.
+use Prim.Native.Nat.{ℕ, _<_}
+use native.Mathlib.Omega.{arith}
+use mathlib.Core.Path.{ap}
+use lib.ListN.{length, length-set}
+use borrow.Fn.Kinds.{In}
+use borrow.Fn.PlainCycle.{Measures, is, falls, and}
+use Rattle.writing.proofs.Digits.{digits-one, digits-more, digits-shorter}
+use Rattle.writing.proofs.Writing.{wrote-one, wrote-then, wrote-length}
+use Rattle.writing.proofs.put_digits.Reads as put-digits
+use Rattle.writing.proofs.put_digits.Kinds as put-digits-kinds
+use Rattle.writing.proofs.+put_digits.Lts-put_digits as put-digits-lts
+use Rattle.writing.proofs.+put_digits.{statement}
+use Rattle.writing.proofs.+put_digits.Tie.{close}
+
+abbrev μ-put-digits : Measures 1 put-digits-kinds.ps ℕ
+μ-put-digits κs a = a .1 .1 .0
+
+abbrev put-digits-at : ℕ → In 1 put-digits-kinds.ps
+put-digits-at t =
+    and 1 put-digits-kinds.ps (is 1 put-digits-kinds.ps μ-put-digits t) put-digits.Pre
+
+abbrev put-digits-below : ℕ → In 1 put-digits-kinds.ps
+put-digits-below t =
+    and 1 put-digits-kinds.ps (falls 1 put-digits-kinds.ps _<_ μ-put-digits t) put-digits.Pre
+
+put-digits-cast-out :
+    (t : ℕ) →
+    put-digits-lts.Need-cast-out
+    (put-digits-below t, put-digits.Post)
+    (put-digits-at t)
+    put-digits.Post
+put-digits-cast-out t c = omega arith
+
+put-digits-add-out :
+    (t : ℕ) →
+    put-digits-lts.Need-add-out
+    (put-digits-below t, put-digits.Post)
+    (put-digits-at t)
+    put-digits.Post
+put-digits-add-out t c = omega arith
+
+put-digits-slice-write-out : (t : ℕ) → put-digits-lts.Need-slice-write-out (
+  put-digits-below t,
+  put-digits.Post,
+) (put-digits-at t) put-digits.Post
+put-digits-slice-write-out t c = omega (arith, c .before .before .pre .1, ap length (digits-one _ (c .if1 .taken)))
+
+put-digits-add-result : (t : ℕ) → put-digits-lts.Need-add-result (
+  put-digits-below t,
+  put-digits.Post,
+) (put-digits-at t) put-digits.Post
+put-digits-add-result t c = omega (arith, c .before .before .pre .1, ap length (digits-one _ (c .if1 .taken)))
+
+put-digits-same-length : (t : ℕ) → put-digits-lts.Need-same-length (
+  put-digits-below t,
+  put-digits.Post,
+) (put-digits-at t) put-digits.Post
+put-digits-same-length t c = simp length-set
+
+put-digits-returns :
+    (t : ℕ) →
+    put-digits-lts.Need-returns
+    (put-digits-below t, put-digits.Post)
+    (put-digits-at t)
+    put-digits.Post
+put-digits-returns t c = rw (digits-one _ (c .if1 .taken)) (wrote-one _ _ _)
+
+put-digits-put-digits-requires : (t : ℕ) → put-digits-lts.Need-put-digits-requires (
+  put-digits-below t,
+  put-digits.Post,
+) (put-digits-at t) put-digits.Post
+put-digits-put-digits-requires t c κs =
+    let known = c .before .before .before in
+    let shorter = digits-shorter _ (c .before .if1 .left) (known .fits .n .fits) in
+    (omega (arith, known .pre .0), omega (arith, known .pre .1, shorter))
+
+put-digits-cast-out-2 : (t : ℕ) → put-digits-lts.Need-cast-out-2 (
+  put-digits-below t,
+  put-digits.Post,
+) (put-digits-at t) put-digits.Post
+put-digits-cast-out-2 t c = omega arith
+
+put-digits-add-out-2 : (t : ℕ) → put-digits-lts.Need-add-out-2 (
+  put-digits-below t,
+  put-digits.Post,
+) (put-digits-at t) put-digits.Post
+put-digits-add-out-2 t c = omega arith
+
+put-digits-slice-write-out-2 : (t : ℕ) → put-digits-lts.Need-slice-write-out-2 (
+  put-digits-below t,
+  put-digits.Post,
+) (put-digits-at t) put-digits.Post
+put-digits-slice-write-out-2 t c =
+    let known = c .before .before .before .before .before .before in
+    let wrote = c .before .before .put-digits .ensures in
+    let shorter = digits-shorter _ (c .before .before .before .before .if1 .left) (known .fits .n .fits) in
+    omega (arith, known .pre .1, wrote .place, wrote-length wrote, shorter)
+
+put-digits-add-result-2 : (t : ℕ) → put-digits-lts.Need-add-result-2 (
+  put-digits-below t,
+  put-digits.Post,
+) (put-digits-at t) put-digits.Post
+put-digits-add-result-2 t c =
+    let known = c .before .before .before .before .before .before in
+    let wrote = c .before .before .put-digits .ensures in
+    let shorter = digits-shorter _ (c .before .before .before .before .if1 .left) (known .fits .n .fits) in
+    omega (arith, known .pre .1, wrote .place, wrote-length wrote, shorter)
+
+put-digits-same-length-2 : (t : ℕ) → put-digits-lts.Need-same-length-2 (
+  put-digits-below t,
+  put-digits.Post,
+) (put-digits-at t) put-digits.Post
+put-digits-same-length-2 t c = simp length-set (wrote-length (c .before .before .put-digits .ensures))
+
+put-digits-returns-2 : (t : ℕ) → put-digits-lts.Need-returns-2 (
+  put-digits-below t,
+  put-digits.Post,
+) (put-digits-at t) put-digits.Post
+put-digits-returns-2 t c =
+    let known = c .before .before .before .before .before .before in
+    rw (digits-more _ (c .before .before .before .before .if1 .left) (known .fits .n .fits))
+    (wrote-then (c .before .before .put-digits .ensures) (wrote-one _ _ _))
+
+pub +put-digits-spec : {M : Type 1} → statement M
++put-digits-spec = close μ-put-digits λ t. put-digits-lts.spec (
+  put-digits-below t,
+  put-digits.Post,
+)
+    (put-digits-at t)
+    put-digits.Post
+    (put-digits-cast-out t)
+    (put-digits-add-out t)
+    (put-digits-slice-write-out t)
+    (put-digits-add-result t)
+    (put-digits-same-length t)
+    (put-digits-returns t)
+    (put-digits-put-digits-requires t)
+    (put-digits-cast-out-2 t)
+    (put-digits-add-out-2 t)
+    (put-digits-slice-write-out-2 t)
+    (put-digits-add-result-2 t)
+    (put-digits-same-length-2 t)
+    (put-digits-returns-2 t)

@@ -1,0 +1,94 @@
+-- The digits of a number: how many there are, and the first of them.
+use Prim.Native.Nat.{ℕ, zero, suc, _+_, _/_, _%_, _^_, _≤_, _<_}
+use native.Mathlib.Nat.{pow-suc}
+use native.Mathlib.Omega.{arith}
+use mathlib.Core.Path.{_≡_, refl, sym, ap, _∙_}
+use mathlib.Core.Bool.{Bool, true, false}
+use mathlib.Core.List.{List, [], _∷_, _++_}
+use lib.Dec.{ltb}
+use lib.ListN.{length, getD, length-append, List·getD-append}
+use borrow.Author.Tests.{lt-ltb, le-ltb, ltb-false}
+use Rattle.basics.specs.Choice.{pick}
+use Rattle.basics.proofs.Cases.{pick-case}
+use Rattle.writing.specs.Digits.{digit, digitsWithin, digitsOf}
+
+-- the tenth part of a number that has at most k + 1 digits
+pub tenth-below : (k n : ℕ) → n < 10 ^ suc k → n / 10 < 10 ^ k
+tenth-below k n h = let e = pow-suc 10 k in omega arith
+
+-- a number that has at most k + 1 digits has the same ones among k + 2
+digits-fewer : (k n : ℕ) → n < 10 ^ suc k → digitsWithin (suc (suc k)) n ≡ digitsWithin (suc k) n
+unfolding digitsWithin
+digits-fewer zero n h = rw (lt-ltb n 10 h)
+digits-fewer (suc k) n h =
+    ap (λ (l : List ℕ). pick (ltb n 10) (digit n ∷ []) (l ++ digit (n % 10) ∷ []))
+    (digits-fewer k (n / 10) (tenth-below (suc k) n h))
+
+digits-within : (k n : ℕ) → length (digitsWithin k n) ≤ k
+unfolding digitsWithin
+digits-within zero n = omega arith
+digits-within (suc k) n =
+    pick-case (λ (l : List ℕ). length l ≤ suc k) (ltb n 10) _ _
+    (λ e. omega arith)
+    (λ e. omega (arith, length-append (digitsWithin k (n / 10)) (digit (n % 10) ∷ []), digits-within k (n / 10)))
+
+-- a number has at most 20 digits
+pub digits-most : (n : ℕ) → length (digitsOf n) ≤ 20
+unfolding digitsOf
+digits-most n = digits-within 20 n
+
+-- a number up to 2 ^ 63 has at most 19
+pub digits-most-signed : (n : ℕ) → n ≤ 2 ^ 63 → length (digitsOf n) ≤ 19
+unfolding digitsOf
+digits-most-signed n h = rw (digits-fewer 18 n (omega arith)) (digits-within 19 n)
+
+-- a number below ten is its digit
+pub digits-one : (n : ℕ) → n < 10 → digitsOf n ≡ digit n ∷ []
+unfolding digitsOf digitsWithin
+digits-one n h = rw (lt-ltb n 10 h)
+
+digits-last : (n : ℕ) → 10 ≤ n → digitsWithin 20 n ≡ digitsWithin 19 (n / 10) ++ digit (n % 10) ∷ []
+unfolding digitsWithin
+digits-last n h = rw (le-ltb n 10 h)
+
+-- any other is the digits of its tenth part, and then its last
+pub digits-more : (n : ℕ) → 10 ≤ n → n < 2 ^ 64 → digitsOf n ≡ digitsOf (n / 10) ++ digit (n % 10) ∷ []
+unfolding digitsOf
+digits-more n h f =
+    digits-last n h ∙ ap (λ (l : List ℕ). l ++ digit (n % 10) ∷ []) (sym (digits-fewer 18 (n / 10) (omega arith)))
+
+-- every number has a digit
+pub digits-some : (k n : ℕ) → 0 < length (digitsWithin (suc k) n)
+unfolding digitsWithin
+digits-some k n =
+    pick-case (λ (l : List ℕ). 0 < length l) (ltb n 10) _ _
+    (λ e. omega arith)
+    (λ e. omega (arith, length-append (digitsWithin k (n / 10)) (digit (n % 10) ∷ [])))
+
+-- the tenth part has one digit less
+pub digits-shorter : (n : ℕ) → 10 ≤ n → n < 2 ^ 64 → length (digitsOf n) ≡ length (digitsOf (n / 10)) + 1
+digits-shorter n h f =
+    ap length (digits-more n h f) ∙ length-append (digitsOf (n / 10)) (digit (n % 10) ∷ [])
+
+digits-front : (k n : ℕ) → n < 10 ^ suc k → getD (digitsWithin (suc k) n) 0 0 ≡ digit 0 → n ≡ 0
+unfolding digitsWithin
+digits-front zero n h e = by (ltb n 10) refl e
+  where
+    by : (t : Bool) → ltb n 10 ≡ t → getD (pick t (digit n ∷ []) (digit (n % 10) ∷ [])) 0 0 ≡ digit 0 → n ≡ 0
+    by true f g = omega arith
+    by false f g = absurd (omega (arith, ltb-false n 10 f))
+digits-front (suc k) n h e = by (ltb n 10) refl e (digits-front k (n / 10) (tenth-below (suc k) n h))
+  where
+    by : (t : Bool) → ltb n 10 ≡ t
+        → getD (pick t (digit n ∷ []) (digitsWithin (suc k) (n / 10) ++ digit (n % 10) ∷ [])) 0 0 ≡ digit 0
+        → (getD (digitsWithin (suc k) (n / 10)) 0 0 ≡ digit 0 → n / 10 ≡ 0) → n ≡ 0
+    by true f g rest = omega arith
+    by false f g rest =
+        let front = List·getD-append (digitsWithin (suc k) (n / 10)) (digit (n % 10) ∷ []) 0 0 (digits-some k (n / 10)) in
+        let none : n / 10 ≡ 0 = rest (sym front ∙ g) in
+        absurd (omega (arith, ltb-false n 10 f))
+
+-- no number but 0 is written with a zero in front
+pub digits-lead : (n : ℕ) → n < 2 ^ 64 → getD (digitsOf n) 0 0 ≡ digit 0 → n ≡ 0
+unfolding digitsOf
+digits-lead n h e = digits-front 19 n (omega arith) e

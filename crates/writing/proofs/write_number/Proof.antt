@@ -1,0 +1,18 @@
+-- `write_number` meets its contract: 20 bytes are room for every number.
+use native.Mathlib.Omega.{arith}
+use borrow.Author.Needs.{needs}
+use Rattle.writing.proofs.Digits.{digits-most}
+use Rattle.writing.proofs.write_number.Statement.{statement}
+use Rattle.writing.proofs.write_number.Tie as tie
+
+put-digits-requires : tie.Need-put-digits-requires
+put-digits-requires c κs = omega (arith, digits-most (c .before .before .args .n))
+
+same-length : tie.Need-same-length
+same-length c = search needs
+
+returns : tie.Need-returns
+returns c = search needs
+
+pub write-number-spec : {M : Type 1} → statement M
+write-number-spec = tie.close (tie.spec put-digits-requires same-length returns)

@@ -1,0 +1,25 @@
+-- The digits of a number.
+use Prim.Native.Nat.{ℕ, zero, suc, _+_, _/_, _%_}
+use mathlib.Core.List.{List, [], _∷_, _++_}
+use lib.Dec.{ltb}
+use lib.IntN.{ℤ, pos, negsuc}
+use Rattle.basics.specs.Choice.{pick}
+
+-- the byte of a digit: ASCII has 0 at 48 and 9 at 57
+abbrev pub digit : ℕ → ℕ
+digit d = 48 + d
+
+-- the digits of a number of at most k digits, with no zero in front: below ten its one digit, else the digits of its
+-- tenth part and then its last digit
+unfoldable pub digitsWithin : ℕ → ℕ → List ℕ
+digitsWithin zero n = []
+digitsWithin (suc k) n = pick (ltb n 10) (digit n ∷ []) (digitsWithin k (n / 10) ++ digit (n % 10) ∷ [])
+
+-- the digits of a number of 64 bits, which has at most 20
+unfoldable pub digitsOf : ℕ → List ℕ
+digitsOf n = digitsWithin 20 n
+
+-- A negative number has a minus sign (45) in front.
+unfoldable pub signedOf : ℤ → List ℕ
+signedOf (pos n) = digitsOf n
+signedOf (negsuc n) = 45 ∷ digitsOf (suc n)
