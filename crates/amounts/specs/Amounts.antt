@@ -27,11 +27,11 @@ mostRate = 100
 unfoldable pub value : ℕ → ℕ → ℕ
 value q p = q * p
 
--- 01, Close, penalty: a rate is in millionths of the value
+-- 01, Close, penalty: on q units at a price, the rate in millionths of their value, rounded to the nearest cent
 unfoldable pub penalty : ℕ → ℕ → ℕ → ℕ
 penalty q price rate = rounded (value q price * rate) 1000000
 
--- 01, Close, compensation: a tenth of the value
+-- 01, Close, compensation: a tenth of the value, rounded to the nearest cent
 unfoldable pub compensation : ℕ → ℕ → ℕ
 compensation q price = rounded (value q price) 10
 
@@ -43,7 +43,7 @@ dueFor a q t = a * t / q
 unfoldable pub cash : ℕ → ℕ → ℕ → ℕ → ℕ
 cash a q s t = dueFor a q t - dueFor a q s
 
--- 01, Deliver: the cash of deliveries of the units qs one after another, once s are settled
+-- 01, Deliver: the cash of deliveries of ns units one after another, once s are settled
 unfoldable pub cashOfEach : ℕ → ℕ → ℕ → List ℕ → List ℕ
 cashOfEach a q s [] = []
 cashOfEach a q s (n ∷ ns) = cash a q s (s + n) ∷ cashOfEach a q (s + n) ns

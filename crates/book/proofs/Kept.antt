@@ -4,7 +4,9 @@ use native.Mathlib.Omega.{arith}
 use mathlib.Core.Path.{_≡_, refl, sym, ap, _∙_}
 use mathlib.Core.Bool.{Bool, true, false}
 use lib.Dec.{eqb}
-use borrow.Author.Tests.{ltb-true, ltb-false, leb-false, eqb-false, not-false}
+use borrow.Author.Tests.{ltb-false, leb-false, eqb-false, not-false}
+use Rattle.ledger.proofs.Valid.{present-below, valid-changed, valid-more, valid-offer}
+use Rattle.instructions.proofs.Fetching.{waiting-below}
 use Rattle.basics.specs.Choice.{pick}
 use Rattle.basics.proofs.Cases.{pick-case, or-false}
 use Rattle.basics.proofs.Places.{set-case}
@@ -27,7 +29,6 @@ use Rattle.ledger.specs.declared.Ledger.{Ledger}
 use Rattle.ledger.specs.Obligations.{noObligation, newObligation, wishing, Sound, delivering as deliveringFrom}
 use Rattle.ledger.specs.Ledger.{obligationAt, withObligation, withNew, ValidLedger}
 use Rattle.ledger.proofs.Keeping.{new-sound, delivering-sound, wishing-sound, delivering-later, wishing-later}
-use Rattle.ledger.proofs.Valid.{valid-changed, valid-more, valid-offer}
 use Rattle.book.specs.declared.Book.{Book}
 use Rattle.refusals.specs.Refusals.{answer, outside}
 use Rattle.book.specs.Book.{withLegs, withLedger, ageOf, Valid}
@@ -93,8 +94,7 @@ module _ (b : Book) (v : Valid b) where
   withdraw-valid n member =
       outcome-case (λ r. Valid (r .book)) _ _ (doneRefused b) (λ k. v) (λ e.
       let p = passed 1 _ _ e refl in
-      let q = or-false (passed 13 _ _ (p .1) refl .0) in
-      let h = ltb-true n (b .legs .count) (not-false _ (q .0)) in
+      let h = waiting-below (b .legs) n (passed 13 _ _ (p .1) refl .0) in
       let w = waiting-state (b .legs) (v .legs-valid) n h Withdrawn in
       with-legs-valid _ (valid-state (b .legs) (v .legs-valid) n h Withdrawn) (omega (arith, v .room)))
 
@@ -104,7 +104,7 @@ module _ (b : Book) (v : Valid b) where
   cancel-valid n member =
       outcome-case (λ r. Valid (r .book)) _ _ (cancelRefused b) (λ k. v) (λ e.
       let o = obligationAt (b .ledger) n in
-      let h = ltb-true n (b .ledger .count) (not-false _ (passed 13 _ _ (passed 1 _ _ e refl .1) refl .0)) in
+      let h = present-below (b .ledger) n (passed 13 _ _ (passed 1 _ _ e refl .1) refl .0) in
       changed-valid n (wishing member o) h (wishing-sound o member (v .ledger-valid .sound n h)) (wishing-later o member .day) (wishing-later o member .less))
 
   -- ---- Deliver
@@ -114,7 +114,7 @@ module _ (b : Book) (v : Valid b) where
       outcome-case (λ r. Valid (r .book)) _ _ (deliverRefused b) (λ k. v) (λ e.
       let o = obligationAt (b .ledger) n in
       let p = passed 13 _ _ (passed 2 _ _ e refl .1) refl in
-      let h = ltb-true n (b .ledger .count) (not-false _ (p .0)) in
+      let h = present-below (b .ledger) n (p .0) in
       let t = ltb-false (o .parts .outstanding) q (passed 15 _ _ (p .1) refl .0) in
       changed-valid n (deliveringFrom q o) h (delivering-sound o q (record { sound = v .ledger-valid .sound n h; enough = t })) (delivering-later o q .day) (delivering-later o q .less))
 
@@ -131,7 +131,7 @@ module _ (b : Book) (v : Valid b) where
       let p3 = passed 3 _ _ (p2 .1) refl in
       let p13 = passed 13 _ _ (p3 .1) refl in
       let p16 = passed 16 _ _ (passed 15 _ _ (p13 .1) refl .1) refl in
-      let h = ltb-true n (b .ledger .count) (not-false _ (p13 .0)) in
+      let h = present-below (b .ledger) n (p13 .0) in
       let w2 = within 1 mostQuantity q (p2 .0) in
       let w3 = within 1 mostOfferPrice price (p3 .0) in
       with-ledger-valid _ (valid-offer (b .ledger) (v .ledger-valid) _ (leb-false 64 (b .ledger .offers .count) (passed 17 _ _ (p16 .1) refl .0)) (record {

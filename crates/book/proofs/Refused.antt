@@ -2,16 +2,13 @@
 -- is done exactly where no condition holds (`refuses-none`).
 use Prim.Native.Nat.{ℕ}
 use mathlib.Core.Path.{_≡_, refl}
-use mathlib.Core.Bool.{not}
 use mathlib.Core.List.{List, [], _∷_}
-use lib.Dec.{ltb}
-use lib.ListN.{length}
 use Rattle.calendar.specs.declared.Day.{Day}
 use Rattle.instructions.specs.declared.Leg.{Leg}
 use Rattle.instructions.specs.declared.Fit.{Fit}
 use Rattle.instructions.specs.declared.Fit.the-variants.{With, Nobody}
 use Rattle.instructions.specs.Match.{lowestFit}
-use Rattle.ledger.specs.Ledger.{obligationAt}
+use Rattle.ledger.specs.Ledger.{obligationAt, fetched, isAbsent}
 use Rattle.refusals.specs.Refusals.{refuse, noMember}
 use Rattle.refusals.specs.Calls.{enterRefusals, cancelRefusalsOf, deliverRefusalsOf, offerRefusalsIn, offerRefusalsOf, closeRefusalsIn, closeRefusals}
 use Rattle.refusals.proofs.Refusals.{Refuses, is-printed, outcome-refuses}
@@ -80,9 +77,9 @@ module _ (b : Book) where
   month-refuses cs places =
       outcome-refuses (λ (r : Done). r .answer) (monthRefusals (b .ledger .accounts) (b .«close_since») cs places) _ (doneRefused b) refl refl (λ k. refl)
 
-  pub status-refuses : (n : ℕ) → Refuses (refuse 13 (not (ltb n (b .ledger .count))) ∷ []) (status b n .answer)
+  pub status-refuses : (n : ℕ) → Refuses (refuse 13 (isAbsent (fetched (b .ledger) n)) ∷ []) (status b n .answer)
   unfolding status
-  status-refuses n = outcome-refuses (λ (r : Shown). r .answer) (refuse 13 (not (ltb n (b .ledger .count))) ∷ []) _ (statusRefused b) refl refl (λ k. refl)
+  status-refuses n = outcome-refuses (λ (r : Shown). r .answer) (refuse 13 (isAbsent (fetched (b .ledger) n)) ∷ []) _ (statusRefused b) refl refl (λ k. refl)
 
   pub account-refuses : (m : ℕ) → Refuses (refuse 1 (noMember m) ∷ []) (account b m .answer)
   unfolding account

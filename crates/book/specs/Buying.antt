@@ -1,10 +1,8 @@
 -- Buy-in: Offer.
 use Prim.Native.Nat.{ℕ}
-use mathlib.Core.Bool.{not}
 use mathlib.Core.List.{List, _∷_, _++_}
-use lib.Dec.{ltb}
 use Rattle.ledger.specs.declared.Obligation.{Obligation}
-use Rattle.ledger.specs.Ledger.{obligationAt, withOfferFor}
+use Rattle.ledger.specs.Ledger.{obligationAt, fetched, isAbsent, withOfferFor}
 use Rattle.book.specs.declared.Book.{Book}
 use Rattle.book.specs.declared.Done.{Done}
 use Rattle.refusals.specs.Calls.{offerRefusalsIn, offerRefusalsOf}
@@ -16,7 +14,7 @@ use Rattle.book.specs.Instructing.{doneRefused}
 unfoldable pub offerRefusals : Book → ℕ → ℕ → ℕ → ℕ → Obligation → List Refusal
 offerRefusals b n supplier q price o =
     offerRefusalsIn supplier q price
-    ++ refuse 13 (not (ltb n (b .ledger .count)))
+    ++ refuse 13 (isAbsent (fetched (b .ledger) n))
     ∷ offerRefusalsOf (b .terms) (b .today) (ageOf b o) (b .ledger .offers .count) o price
 
 -- 01, Buy-in, Offer

@@ -1,19 +1,19 @@
 -- Instructions: Enter, Withdraw, Cancel, Deliver.
 use Prim.Native.Nat.{ℕ, _+_}
-use mathlib.Core.Bool.{_||_, not}
+use mathlib.Core.Bool.{not}
 use mathlib.Core.List.{List, [], _∷_}
-use lib.Dec.{ltb, eqb}
+use lib.Dec.{eqb}
 use Rattle.calendar.specs.declared.Day.{Day}
 use Rattle.amounts.specs.Amounts.{mostQuantity}
 use Rattle.instructions.specs.declared.Leg.{Leg}
 use Rattle.instructions.specs.declared.LegState.the-variants.{Waiting, Withdrawn, Matched}
 use Rattle.instructions.specs.declared.Fit.{Fit}
 use Rattle.instructions.specs.declared.Fit.the-variants.{With, Nobody}
-use Rattle.instructions.specs.Legs.{isWaiting, inState, legAt, withState, withLeg}
+use Rattle.instructions.specs.Legs.{inState, legAt, fetchedLeg, notWaiting, withState, withLeg}
 use Rattle.instructions.specs.Match.{delivering, receiving, lowestFit}
 use Rattle.ledger.specs.declared.Obligation.{Obligation}
 use Rattle.ledger.specs.Obligations.{newObligation, cashOf, wishing, movedByWish, delivering as deliveringFrom}
-use Rattle.ledger.specs.Ledger.{obligationAt, withObligation, withNew}
+use Rattle.ledger.specs.Ledger.{obligationAt, fetched, isAbsent, withObligation, withNew}
 use Rattle.book.specs.declared.Book.{Book}
 use Rattle.book.specs.declared.Entered.{Entered}
 use Rattle.book.specs.declared.Done.{Done}
@@ -82,11 +82,11 @@ enter b member other side q a j =
 unfoldable pub withdrawRefusals : Book → ℕ → ℕ → List Refusal
 withdrawRefusals b n member =
     refuse 1 (noMember member)
-    ∷ refuse 13 (not (ltb n (b .legs .count)) || not (isWaiting (legAt (b .legs) n .state)))
+    ∷ refuse 13 (notWaiting (fetchedLeg (b .legs) n))
     ∷ refuse 14 (not (eqb (legAt (b .legs) n .member) member))
     ∷ []
 
--- a refused Withdraw or Offer
+-- a refused Withdraw, Offer or Month
 abbrev pub doneRefused : Book → ℕ → Done
 doneRefused b n = record { answer = n; book = b }
 
@@ -100,7 +100,7 @@ withdraw b n member =
 -- ---- Cancel
 -- 01, Refusals, of Cancel: o is the obligation with the number
 unfoldable pub cancelRefusals : Book → ℕ → ℕ → Obligation → List Refusal
-cancelRefusals b n member o = refuse 1 (noMember member) ∷ refuse 13 (not (ltb n (b .ledger .count))) ∷ cancelRefusalsOf o member
+cancelRefusals b n member o = refuse 1 (noMember member) ∷ refuse 13 (isAbsent (fetched (b .ledger) n)) ∷ cancelRefusalsOf o member
 
 -- a refused Cancel
 abbrev pub cancelRefused : Book → ℕ → Cancelled
@@ -118,7 +118,7 @@ cancel b n member =
 -- 01, Refusals, of Deliver: o is the obligation with the number
 unfoldable pub deliverRefusals : Book → ℕ → ℕ → Obligation → List Refusal
 deliverRefusals b n q o =
-    refuse 2 (outside 1 mostQuantity q) ∷ refuse 13 (not (ltb n (b .ledger .count))) ∷ deliverRefusalsOf (b .today) o q
+    refuse 2 (outside 1 mostQuantity q) ∷ refuse 13 (isAbsent (fetched (b .ledger) n)) ∷ deliverRefusalsOf (b .today) o q
 
 -- a refused Deliver
 abbrev pub deliverRefused : Book → ℕ → Delivered

@@ -1,7 +1,7 @@
 -- Reading: Status, Account, Look.
 use Prim.Native.Nat.{ℕ, _+_, _<_}
 use mathlib.Core.Path.{_≡_}
-use mathlib.Core.Bool.{Bool, true, false, _&&_, not}
+use mathlib.Core.Bool.{Bool, true, false, _&&_}
 use mathlib.Core.List.{[], _∷_}
 use lib.Dec.{ltb, eqb}
 use lib.IntN.{pos}
@@ -9,7 +9,7 @@ use lib.ListN.{getD}
 use Rattle.calendar.specs.declared.Day.{Day}
 use Rattle.ledger.specs.declared.Obligation.{Obligation}
 use Rattle.ledger.specs.Obligations.{noParts}
-use Rattle.ledger.specs.Ledger.{obligationAt}
+use Rattle.ledger.specs.Ledger.{obligationAt, fetched, isAbsent}
 use Rattle.book.specs.declared.Book.{Book}
 use Rattle.book.specs.declared.Shown.{Shown}
 use Rattle.book.specs.declared.Balance.{Balance}
@@ -24,7 +24,7 @@ statusRefused b n = record { answer = n; quantity = 0; parts = noParts; book = b
 unfoldable pub status : Book → ℕ → Shown
 status b n =
     let o = obligationAt (b .ledger) n in
-    outcome (answer (refuse 13 (not (ltb n (b .ledger .count))) ∷ []))
+    outcome (answer (refuse 13 (isAbsent (fetched (b .ledger) n)) ∷ []))
     (record { answer = 0; quantity = o .quantity; parts = o .parts; book = b })
     (statusRefused b)
 

@@ -47,8 +47,8 @@ pub record Closes (d : DayEnd) (offers : Offers) (o : Obligation) : Type 0 where
 abbrev pub Near : List ℤ → Type 0
 Near accounts = (m : ℕ) → natAbs (getD accounts m (pos 0)) ≤ 8000000000000
 
--- what the Close of a ledger asks: terms whose notice comes before the last day, limits of its price and rate, and room
--- for 192 lines of six words
+-- what the Close of a ledger asks: a valid ledger, terms whose notice comes before the last day, limits of its price and
+-- rate, accounts that can take its penalties, and room for 192 lines of six words
 pub record Closable (d : DayEnd) (l : Ledger) (ws : List ℕ) : Type 0 where
   pub valid : ValidLedger l
   pub apart : d .terms .notice .0 < d .terms .last .0

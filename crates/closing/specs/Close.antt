@@ -36,7 +36,7 @@ closedOne d offers n o =
 abbrev pub closedAt : DayEnd → List Offer → List Obligation → ℕ → Made
 closedAt d offers os n = closedOne d offers n (getD os n noObligation)
 
--- 01, Close: in rising number, the obligations after the first n of them
+-- 01, Close: in rising number, all obligations once the first n of them are closed
 unfoldable pub rowsUpTo : DayEnd → List Offer → List Obligation → ℕ → List Obligation
 rowsUpTo d offers os zero = os
 rowsUpTo d offers os (suc n) = set (rowsUpTo d offers os n) n (closedAt d offers os n .obligation)

@@ -20,6 +20,7 @@ use Rattle.instructions.specs.Match.{fits, firstFit, lowestFit}
 use Rattle.ledger.specs.Obligations.{cashOf, isDue, buyingIn, compensating}
 use Rattle.ledger.specs.Obligations.{settled as settledSoFar}
 use Rattle.ledger.specs.Obligations.{delivering as deliveringFrom}
+use Rattle.ledger.specs.Ledger.{fetched}
 use Rattle.refusals.specs.Refusals.{answer}
 use Rattle.book.specs.Book.{ageOf}
 use Rattle.book.specs.Instructing.{obligationOf, enteredAlone, enteredWith, enter, deliverRefusals, deliver}
@@ -57,6 +58,6 @@ example-9 = λ i. dayNumber (thirtieth i) ++ dayNumber (thirty-fifth i) ++ dayNu
 
 -- in every row, what the definitions give is what 01 says
 pub settled : Every (λ r. r .computed ≡ r .settled) table
-unfolding total tableFrom countBelow rounded value penalty compensation dueFor cash cashOfEach charge tolerance amountsMatch aboveCap floorShare remainder centsLeft comesBefore rank extraCent share shares overtakes insertedBy rankedBy offersFor withGiven givenBy given boughtFrom among clearing clearingWithin ageAt closedDays listed answer ageOf enterRefusals obligationOf enteredAlone enteredWith enter deliverRefusals deliverRefusalsOf deliver offerRefusals offerRefusalsIn offerRefusalsOf offer fits firstFit lowestFit settledSoFar cashOf deliveringFrom close closeRefusals closeRefusalsIn nextAfter nextWithin flat then stages closedOne rowsUpTo linesUpTo fined priced penalised noticeAt boughtOffer boughtAll buyInAt compensated compensatedAt isDue buyingIn compensating paidOut monthRefusals overCollected
+unfolding total tableFrom countBelow rounded value penalty compensation dueFor cash cashOfEach charge tolerance amountsMatch aboveCap floorShare remainder centsLeft comesBefore rank extraCent share shares overtakes insertedBy rankedBy offersFor withGiven givenBy given boughtFrom among clearing clearingWithin ageAt closedDays listed answer ageOf enterRefusals obligationOf enteredAlone enteredWith enter deliverRefusals deliverRefusalsOf deliver offerRefusals offerRefusalsIn offerRefusalsOf offer fits firstFit lowestFit settledSoFar cashOf deliveringFrom close closeRefusals closeRefusalsIn nextAfter nextWithin flat then stages closedOne rowsUpTo linesUpTo fined priced penalised noticeAt boughtOffer boughtAll buyInAt compensated compensatedAt isDue buyingIn compensating paidOut monthRefusals overCollected fetched
 settled =
     also refl (also refl (also refl (also refl (also refl (also refl (also refl (also refl (also refl (also refl (also refl (also refl (also refl (also example-9 (also refl (also refl (also refl (also refl (also refl (also refl (also refl (also refl (also refl nobody))))))))))))))))))))))

@@ -1,7 +1,7 @@
 -- Instructions: the legs that members enter.
 use Prim.Native.Nat.{ℕ, _+_, _≤_, _<_}
 use mathlib.Core.Path.{_≡_}
-use mathlib.Core.Bool.{Bool, true, false}
+use mathlib.Core.Bool.{Bool, true, false, not}
 use mathlib.Core.List.{List}
 use lib.Dec.{ltb}
 use lib.ListN.{length, getD, set, take, replicate}
@@ -53,6 +53,11 @@ legAt s n = getD (s .rows) n noLeg
 -- 01, Refusals, 13: a call that names a leg fetches it
 unfoldable pub fetchedLeg : Legs → ℕ → FetchedLeg
 fetchedLeg s n = pick (ltb n (s .count)) (Found (legAt s n)) Absent
+
+-- 01, Refusals, 13, of Withdraw: its condition for each answer of the fetch: no such leg, or one that does not wait
+abbrev pub notWaiting : FetchedLeg → Bool
+notWaiting (Found l) = not (isWaiting (l .state))
+notWaiting Absent = true
 
 -- 01, Withdraw and matching: the leg with a number goes into another state
 abbrev pub withState : ℕ → LegState → Legs → Legs

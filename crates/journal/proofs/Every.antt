@@ -7,7 +7,8 @@ use mathlib.Core.List.{List}
 use mathlib.Core.Option.{none, some}
 use lib.Dec.{eqb}
 use lib.ListN.{length}
-use borrow.Author.Tests.{eqb-true, eqb-false, eq-eqb, ne-eqb, ltb-true, not-false}
+use borrow.Author.Tests.{eqb-true, eqb-false, eq-eqb, ne-eqb}
+use Rattle.ledger.proofs.Valid.{present-below}
 use Rattle.basics.specs.Choice.{pick}
 use Rattle.basics.proofs.Cases.{pick-case}
 use Rattle.calendar.specs.declared.Day.{Day}
@@ -130,7 +131,7 @@ module _ (b : Book) (v : Valid b) where
       by-number (λ (x : Delivered). Valid (x .book) → Moves b (x .book) (pick (eqb (x .answer) 0) (onlyParts (alone n q) (λ k. 0)) quiet)) (answer rs) _ (deliverRefused b)
       (λ z w. refused-moves (answer rs) (onlyParts (alone n q) (λ k. 0)) z)
       (λ e w.
-      let h = ltb-true n (b .ledger .count) (not-false _ (passed 13 _ _ (passed 2 _ _ e refl .1) refl .0)) in
+      let h = present-below (b .ledger) n (passed 13 _ _ (passed 2 _ _ e refl .1) refl .0) in
       moves-one b v n (deliverFrom q o) h (alone n q) (λ k. 0) (delivering-later o q)
       (rw (alone-own n q) (record { delivered = omega arith; bought-in = omega arith; compensated = omega arith; cancelled = omega arith }))
       (λ k z. (alone-other n q k z, refl)) w)
@@ -144,7 +145,7 @@ module _ (b : Book) (v : Valid b) where
       by-number (λ (x : Cancelled). Valid (x .book) → Moves b (x .book) (pick (eqb (x .answer) 0) (onlyParts (λ k. 0) (alone n (x .moved))) quiet)) (answer rs) _ (cancelRefused b)
       (λ z w. refused-moves (answer rs) (onlyParts (λ k. 0) (alone n 0)) z)
       (λ e w.
-      let h = ltb-true n (b .ledger .count) (not-false _ (passed 13 _ _ (passed 1 _ _ e refl .1) refl .0)) in
+      let h = present-below (b .ledger) n (passed 13 _ _ (passed 1 _ _ e refl .1) refl .0) in
       moves-one b v n (wishing member o) h (λ k. 0) (alone n (movedByWish member o)) (wishing-later o member)
       (rw (alone-own n (movedByWish member o)) (wish-shift o member))
       (λ k z. (refl, alone-other n (movedByWish member o) k z)) w)

@@ -7,7 +7,9 @@ use mathlib.Core.List.{List, [], _∷_, _++_}
 use lib.Dec.{eqb}
 use lib.ListN.{length, getD, set}
 use lib.Seq.{getD-take, length-take-le}
-use borrow.Author.Tests.{ne-eqb, ltb-true, leb-false, not-false}
+use borrow.Author.Tests.{ne-eqb, leb-false, not-false}
+use Rattle.ledger.proofs.Valid.{present-below}
+use Rattle.instructions.proofs.Fetching.{waiting-below}
 use Rattle.basics.specs.Choice.{pick}
 use Rattle.basics.proofs.Cases.{or-false}
 use Rattle.calendar.specs.declared.Day.{Day}
@@ -99,7 +101,7 @@ module _ (b : Book) (v : Valid b) where
       by-number (λ (x : Done). Left (x .book) (withdraw leg member) (x .answer) [] []) n _ (doneRefused b)
       (refused-leaves (withdraw leg member) n [] [])
       (λ e.
-      let h = ltb-true leg (b .legs .count) (not-false _ (or-false (passed 13 _ _ (passed 1 _ _ e refl .1) refl .0) .0)) in
+      let h = waiting-below (b .legs) leg (passed 13 _ _ (passed 1 _ _ e refl .1) refl .0) in
       record {
         close-since = refl;
         rows = rows-same b _ refl refl;
@@ -154,7 +156,7 @@ module _ (b : Book) (v : Valid b) where
       by-number (λ (x : Delivered). Left (x .book) (deliver k q) (x .answer) (x .cash ∷ []) []) n _ (deliverRefused b)
       (refused-leaves (deliver k q) n (0 ∷ []) [])
       (λ e.
-      let h = ltb-true k (b .ledger .count) (not-false _ (passed 13 _ _ (passed 2 _ _ e refl .1) refl .0)) in
+      let h = present-below (b .ledger) k (passed 13 _ _ (passed 2 _ _ e refl .1) refl .0) in
       record {
         close-since = refl;
         rows = rows-one b v k (deliverFrom q o) h (λ i m. false) refl (λ m. refl) (λ i m z. refl);
@@ -172,7 +174,7 @@ module _ (b : Book) (v : Valid b) where
       (refused-leaves (cancel k member) n (0 ∷ []) [])
       (λ e.
       let p13 = passed 13 _ _ (passed 1 _ _ e refl .1) refl in
-      let h = ltb-true k (b .ledger .count) (not-false _ (p13 .0)) in
+      let h = present-below (b .ledger) k (p13 .0) in
       let party = not-false _ (or-false (passed 14 _ _ (p13 .1) refl .0) .0) in
       record {
         close-since = refl;

@@ -2,7 +2,7 @@
 use Prim.Native.Nat.{ℕ, _<_}
 use native.Mathlib.Omega.{arith}
 use mathlib.Core.Path.{_≡_, refl, sym, ap, ap₂, subst, subst⁻¹, _∙_}
-use mathlib.Core.Bool.{Bool, true, false, false≢true, not}
+use mathlib.Core.Bool.{Bool, true, false, false≢true}
 use mathlib.Core.List.{List, [], _∷_}
 use mathlib.Core.Option.{Option, none, some}
 use lib.Dec.{ltb}
@@ -15,7 +15,7 @@ use Rattle.basics.specs.Lists.{table}
 use Rattle.basics.proofs.Tables.{is-table}
 use Rattle.netting.specs.Accounts.{balance}
 use Rattle.ledger.specs.declared.Parts.{Parts}
-use Rattle.ledger.specs.Ledger.{obligationAt}
+use Rattle.ledger.specs.Ledger.{obligationAt, fetched, isAbsent}
 use Rattle.ledger.proofs.Keeping.{parts-whole}
 use Rattle.refusals.specs.Refusals.{refuse, answer, noMember}
 use Rattle.refusals.proofs.Refusals.{pass, all-passed, done-by}
@@ -111,14 +111,14 @@ held b n i e = by (ltb n (b .ledger .count)) refl e
 
 module _ (o : Opening) (b : Book) (es : List Event) (g : Agrees o b es) where
   status-shows : (n : ℕ) (i : Deal) → dealIn n es ≡ some i → (t : Shown) → t ≡ status b n → StatusShows o es n i t
-  unfolding status
+  unfolding status fetched
   status-shows n i e t q =
       let h = held b n i (sym (g .deals n) ∙ e) in
       let there : ltb n (b .ledger .count) ≡ true = lt-ltb n (b .ledger .count) (h .below) in
       let p = obligationAt (b .ledger) n in
-      let zero : answer (refuse 13 (not (ltb n (b .ledger .count))) ∷ []) ≡ 0 = pass 13 [] (rw there) ∙ all-passed in
+      let zero : answer (refuse 13 (isAbsent (fetched (b .ledger) n)) ∷ []) ≡ 0 = pass 13 [] (rw there) ∙ all-passed in
       let parts : heldParts b n ≡ p .parts = rw there in
-      let shown : t ≡ record { answer = 0; quantity = p .quantity; parts = p .parts; book = b } = q ∙ sym (done-by (refuse 13 (not (ltb n (b .ledger .count))) ∷ []) _ (statusRefused b) zero) in
+      let shown : t ≡ record { answer = 0; quantity = p .quantity; parts = p .parts; book = b } = q ∙ sym (done-by (refuse 13 (isAbsent (fetched (b .ledger) n)) ∷ []) _ (statusRefused b) zero) in
       let dl = g .delivered n ∙ ap (λ (x : Parts). x .delivered) parts in
       let bo = g .bought-in n ∙ ap (λ (x : Parts). x .«bought_in») parts in
       let co = g .compensated n ∙ ap (λ (x : Parts). x .compensated) parts in

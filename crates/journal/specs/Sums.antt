@@ -84,7 +84,7 @@ unfoldable pub penaltiesOf : ℕ → (ℕ → Option Deal) → List Line → ℤ
 penaltiesOf m deals [] = pos 0
 penaltiesOf m deals (l ∷ ls) = pick (eqb (l .kind) 1) (creditOf m (l .cents) (deals (l .obligation))) (pos 0) +ℤ penaltiesOf m deals ls
 
--- whether a Month is what an event is
+-- whether an event that collects this is a Month
 abbrev pub isMonth : Option (List ℕ) → Bool
 isMonth none = false
 isMonth (some cs) = true

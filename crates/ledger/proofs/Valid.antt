@@ -1,8 +1,8 @@
 -- A new ledger is valid, and a changed obligation, a new one and a new offer leave a valid ledger.
 use Prim.Native.Nat.{ℕ, _+_, _<_}
 use native.Mathlib.Omega.{arith}
-use mathlib.Core.Path.{_≡_, refl, _∙_}
-use mathlib.Core.Bool.{Bool, true, false}
+use mathlib.Core.Path.{_≡_, refl, sym, _∙_}
+use mathlib.Core.Bool.{Bool, true, false, false≢true}
 use lib.Dec.{ltb}
 use lib.ListN.{length-set}
 use borrow.Author.Tests.{ltb-true}
@@ -19,7 +19,7 @@ use Rattle.ledger.specs.declared.Obligation.{Obligation}
 use Rattle.ledger.specs.declared.Ledger.{Ledger}
 use Rattle.ledger.specs.declared.Fetched.the-variants.{Found, Absent}
 use Rattle.ledger.specs.Obligations.{noObligation, Sound}
-use Rattle.ledger.specs.Ledger.{newLedger, obligationAt, fetched, withObligation, withNew, withOfferFor, SoundOffer, ValidLedger}
+use Rattle.ledger.specs.Ledger.{newLedger, obligationAt, fetched, isAbsent, withObligation, withNew, withOfferFor, SoundOffer, ValidLedger}
 
 -- no obligations, no offers, all accounts zero
 pub new-valid : ValidLedger newLedger
@@ -56,6 +56,15 @@ absent-not l n e = by (ltb n (l .count)) refl e
     by : (t : Bool) → ltb n (l .count) ≡ t → pick t (Found (obligationAt l n)) Absent ≡ Absent → ltb n (l .count) ≡ false
     by true t q = let z : _≡_ {A = ℕ} 0 1 = cc in absurd (omega arith)
     by false t q = t
+
+-- an obligation that is not absent is one of the count
+pub present-below : (l : Ledger) (n : ℕ) → isAbsent (fetched l n) ≡ false → n < l .count
+unfolding fetched
+present-below l n e = by (ltb n (l .count)) refl e
+  where
+    by : (t : Bool) → ltb n (l .count) ≡ t → isAbsent (pick t (Found (obligationAt l n)) Absent) ≡ false → n < l .count
+    by true t q = ltb-true n (l .count) t
+    by false t q = absurd (false≢true (sym q))
 
 module _ (l : Ledger) (v : ValidLedger l) where
   -- an obligation that was found is sound

@@ -1,7 +1,7 @@
 -- The ledger: obligations, offers and accounts.
 use Prim.Native.Nat.{ℕ, _+_, _≤_, _<_}
 use mathlib.Core.Path.{_≡_}
-use mathlib.Core.Bool.{Bool, false}
+use mathlib.Core.Bool.{Bool, true, false}
 use lib.Dec.{ltb}
 use lib.IntN.{pos}
 use lib.ListN.{length, getD, set, replicate}
@@ -26,13 +26,14 @@ newLedger = record { obligations = replicate 64 noObligation; count = 0; offers 
 abbrev pub obligationAt : Ledger → ℕ → Obligation
 obligationAt l n = getD (l .obligations) n noObligation
 
--- 01, Refusals, 13: whether there is an obligation with a number
-abbrev pub isThere : Ledger → ℕ → Bool
-isThere l n = ltb n (l .count)
-
 -- 01, Refusals: a call that names an obligation first fetches it
 unfoldable pub fetched : Ledger → ℕ → Fetched
 fetched l n = pick (ltb n (l .count)) (Found (obligationAt l n)) Absent
+
+-- 01, Refusals, 13, of a call that names an obligation: its condition for each answer of the fetch
+abbrev pub isAbsent : Fetched → Bool
+isAbsent (Found o) = false
+isAbsent Absent = true
 
 -- the obligation with a number, changed
 abbrev pub withObligation : ℕ → Obligation → Ledger → Ledger

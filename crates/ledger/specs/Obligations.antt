@@ -83,7 +83,7 @@ newObligation seller buyer quantity amount j = record {
   «grace_price» = 0;
 }
 
--- 01, Whole journals: the parts of the instructed quantity
+-- 01, Whole journals: the sum of the parts, which is the instructed quantity
 unfoldable pub allParts : Parts → ℕ
 allParts p = p .delivered + p .«bought_in» + p .compensated + p .cancelled + p .outstanding
 

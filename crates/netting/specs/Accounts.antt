@@ -31,15 +31,16 @@ credited member cents accounts = set accounts member (getD accounts member (pos 
 unfoldable pub transferred : ℕ → ℕ → ℕ → List ℤ → List ℤ
 transferred debtor creditor cents accounts = credited creditor cents (debited debtor cents accounts)
 
--- 01, Whole journals: what the accounts add up to
+-- what the accounts add up to: zero, since a penalty takes from one what it gives to another
 unfoldable pub balance : List ℤ → ℤ
 balance [] = pos 0
 balance (a ∷ accounts) = a +ℤ balance accounts
 
--- no account is further from zero than this; then all claims together are at most 2 ^ 48
+-- the most that an account may be from zero
 abbrev pub mostAccount : ℕ
 mostAccount = 2 ^ 43
 
+-- no account is further from zero than that; then all claims together are at most 2 ^ 48
 abbrev pub Bounded : List ℤ → Type 0
 Bounded accounts = (m : ℕ) → natAbs (getD accounts m (pos 0)) ≤ mostAccount
 
@@ -50,7 +51,7 @@ pub record Transferable (debtor creditor cents : ℕ) (accounts : List ℤ) : Ty
   pub cents-most : cents ≤ mostAccount
   pub bounded : Bounded accounts
 
--- what the netting asks: no more is collected than is claimed
+-- what the netting asks: bounded accounts, and no more collected than is claimed
 pub record Shareable (accounts : List ℤ) (collected : ℕ) : Type 0 where
   pub bounded : Bounded accounts
   pub covered : collected ≤ sum (claims accounts)

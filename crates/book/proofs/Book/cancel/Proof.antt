@@ -3,10 +3,10 @@ use native.Mathlib.Omega.{arith}
 use mathlib.Core.Path.{refl, sym, ap, _∙_}
 use borrow.Author.Needs.{needs}
 use borrow.Author.Tests.{lt-ltb, le-ltb, ltb-true}
+use Rattle.ledger.specs.Ledger.{fetched, withObligation}
 use Rattle.book.specs.Book.{withLedger}
 use Rattle.book.specs.Instructing.{cancel, cancelRefusals, cancelRefused}
 use Rattle.book.specs.declared.Cancelled.{Cancelled}
-use Rattle.ledger.specs.Ledger.{withObligation}
 use Rattle.ledger.specs.Obligations.{wishing, movedByWish}
 use Rattle.ledger.specs.declared.Obligation.{Obligation}
 use Rattle.book.proofs.Answers.{answered}
@@ -20,7 +20,7 @@ there : (c : tie.After-found) → There (c .before .before .before .before .befo
 there c = found-there _ _ _ (sym (c .before .before .fetch .ensures) ∙ c .found .given .1)
 
 returns : tie.Need-returns
-unfolding cancel cancelRefusals
+unfolding cancel cancelRefusals fetched
 returns c = (refused-by 1 _ _ (cancelRefused _) (stop 1 _ (lt-ltb _ _ (c .if1 .taken))) refl, c .before .pre)
 
 fetch-requires : tie.Need-fetch-requires
@@ -33,14 +33,14 @@ enum-told : tie.Need-enum-told
 enum-told c = search needs
 
 returns-2 : tie.Need-returns-2
-unfolding cancel cancelRefusals
+unfolding cancel cancelRefusals fetched
 returns-2 c = (refused-by 13 _ _ (cancelRefused _) (pass 1 _ (le-ltb _ _ (c .before .before .before .before .if1 .left)) ∙ stop 13 _ (rw (absent-not _ _ (sym (c .before .before .fetch .ensures) ∙ c .enum-told .given .1)))) refl, c .before .before .before .before .before .pre)
 
 cancel-answer-requires : tie.Need-cancel-answer-requires
 cancel-answer-requires c κs = search needs
 
 returns-3 : tie.Need-returns-3
-unfolding cancel cancelRefusals
+unfolding cancel cancelRefusals fetched
 returns-3 c = let t = there (c .before .before .before) in (refused-with _ _ _ (cancelRefused _) (pass 1 _ (le-ltb _ _ (c .before .before .before .before .before .before .before .if1 .left)) ∙ pass 13 _ (rw (t .below)) ∙ rw (← t .same) (sym (c .before .cancel-answer .ensures))) (c .if2 .taken), c .before .before .before .before .before .before .before .before .pre)
 
 wish-requires : tie.Need-wish-requires
@@ -53,7 +53,7 @@ moved-by-wish-requires : tie.Need-moved-by-wish-requires
 moved-by-wish-requires c κs = search needs
 
 returns-4 : tie.Need-returns-4
-unfolding cancel cancelRefusals
+unfolding cancel cancelRefusals fetched
 returns-4 c = let t = there (c .before .before .before .before .before .before) in let a = c .before .before .before .before .before .before .before .before .before .before .before .args in
     answered (λ (r : Cancelled). r .book)
     ((λ i. record { answer = 0; moved = c .moved-by-wish .ensures i; book = withLedger (c .before .replace .ensures i) (a .self) })

@@ -3,11 +3,11 @@ use native.Mathlib.Omega.{arith}
 use mathlib.Core.Path.{refl, sym, ap, _∙_}
 use borrow.Author.Needs.{needs}
 use borrow.Author.Tests.{ltb-true, ltb-false}
+use Rattle.ledger.specs.Ledger.{fetched, withObligation}
 use Rattle.book.specs.Book.{withLedger}
 use Rattle.book.specs.Instructing.{deliver, deliverRefusals, deliverRefused}
 use Rattle.refusals.specs.Calls.{deliverRefusalsOf}
 use Rattle.book.specs.declared.Delivered.{Delivered}
-use Rattle.ledger.specs.Ledger.{withObligation}
 use Rattle.ledger.specs.Obligations.{delivering, cashOf, Takes}
 use Rattle.ledger.specs.declared.Obligation.{Obligation}
 use Rattle.book.proofs.Answers.{answered}
@@ -31,7 +31,7 @@ is-outside-requires : tie.Need-is-outside-requires
 is-outside-requires c κs = search needs
 
 returns : tie.Need-returns
-unfolding deliver deliverRefusals
+unfolding deliver deliverRefusals fetched
 returns c = (refused-by 2 _ _ (deliverRefused _) (stop 2 _ (sym (c .before .is-outside .ensures) ∙ c .if1 .taken)) refl, c .before .before .pre)
 
 fetch-requires : tie.Need-fetch-requires
@@ -44,14 +44,14 @@ enum-told : tie.Need-enum-told
 enum-told c = search needs
 
 returns-2 : tie.Need-returns-2
-unfolding deliver deliverRefusals
+unfolding deliver deliverRefusals fetched
 returns-2 c = (refused-by 13 _ _ (deliverRefused _) (pass 2 _ (sym (c .before .before .before .before .before .is-outside .ensures) ∙ c .before .before .before .before .if1 .left) ∙ stop 13 _ (rw (absent-not _ _ (sym (c .before .before .fetch .ensures) ∙ c .enum-told .given .1)))) refl, c .before .before .before .before .before .before .pre)
 
 deliver-answer-requires : tie.Need-deliver-answer-requires
 deliver-answer-requires c κs = search needs
 
 returns-3 : tie.Need-returns-3
-unfolding deliver deliverRefusals
+unfolding deliver deliverRefusals fetched
 returns-3 c = let t = there (c .before .before .before) in (refused-with _ _ _ (deliverRefused _) (pass 2 _ (sym (c .before .before .before .before .before .before .before .before .is-outside .ensures) ∙ c .before .before .before .before .before .before .before .if1 .left) ∙ pass 13 _ (rw (t .below)) ∙ rw (← t .same) (sym (c .before .deliver-answer .ensures))) (c .if2 .taken), c .before .before .before .before .before .before .before .before .before .pre)
 
 deliver-requires : tie.Need-deliver-requires
@@ -64,7 +64,7 @@ cash-for-requires : tie.Need-cash-for-requires
 cash-for-requires c κs = takes (c .before .before)
 
 returns-4 : tie.Need-returns-4
-unfolding deliver deliverRefusals
+unfolding deliver deliverRefusals fetched
 returns-4 c = let t = there (c .before .before .before .before .before .before) in let a = c .before .before .before .before .before .before .before .before .before .before .before .before .args in
     answered (λ (r : Delivered). r .book)
     ((λ i. record { answer = 0; cash = c .cash-for .ensures i; book = withLedger (c .before .replace .ensures i) (a .self) })

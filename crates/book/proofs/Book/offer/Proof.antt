@@ -1,6 +1,7 @@
 -- `offer` meets its contract.
 use mathlib.Core.Path.{_≡_, refl, sym, ap, _∙_}
 use borrow.Author.Needs.{needs}
+use Rattle.ledger.specs.Ledger.{fetched}
 use Rattle.book.specs.Book.{withLedger, ageOf}
 use Rattle.book.specs.Buying.{offer, offerRefusals}
 use Rattle.refusals.specs.Calls.{offerRefusalsIn, offerRefusalsOf}
@@ -34,7 +35,7 @@ offer-answer-requires : tie.Need-offer-answer-requires
 offer-answer-requires c κs = search needs
 
 returns : tie.Need-returns
-unfolding offer offerRefusals
+unfolding offer offerRefusals fetched
 returns c = (refused-with _ _ _ (doneRefused _) (refused-ahead (offerRefusalsIn _ _ _) _ (c .before .offer-answer .result) (sym (c .before .offer-answer .ensures)) (c .if1 .taken)) (c .if1 .taken), c .before .before .pre)
 
 fetch-requires : tie.Need-fetch-requires
@@ -47,7 +48,7 @@ enum-told : tie.Need-enum-told
 enum-told c = search needs
 
 returns-2 : tie.Need-returns-2
-unfolding offer offerRefusals
+unfolding offer offerRefusals fetched
 returns-2 c = (refused-by 13 _ _ (doneRefused _) (passed-ahead (offerRefusalsIn _ _ _) _ (offer-some _ _ _) (sym (c .before .before .before .before .before .offer-answer .ensures) ∙ c .before .before .before .before .if1 .left) ∙ stop 13 _ (rw (absent-not _ _ (sym (c .before .before .fetch .ensures) ∙ c .enum-told .given .1)))) refl, c .before .before .before .before .before .before .pre)
 
 age-at-requires : tie.Need-age-at-requires
@@ -57,14 +58,14 @@ offer-answer-of-requires : tie.Need-offer-answer-of-requires
 offer-answer-of-requires c κs = (input-price _ _ _ (sym (c .before .before .before .before .before .before .before .before .before .before .before .offer-answer .ensures) ∙ c .before .before .before .before .before .before .before .before .before .before .if1 .left), there-sound _ (c .before .before .before .before .before .before .before .before .before .before .before .before .pre .ledger-valid) _ _ (there (c .before .before .before .before .before .before)) .price-most)
 
 returns-3 : tie.Need-returns-3
-unfolding offer offerRefusals
+unfolding offer offerRefusals fetched
 returns-3 c = let t = there (c .before .before .before .before .before .before .before .before) in (refused-with _ _ _ (doneRefused _) (passed-ahead (offerRefusalsIn _ _ _) _ (offer-some _ _ _) (sym (c .before .before .before .before .before .before .before .before .before .before .before .before .before .offer-answer .ensures) ∙ c .before .before .before .before .before .before .before .before .before .before .before .before .if1 .left) ∙ pass 13 _ (rw (t .below)) ∙ rw (← t .same) (late (c .before))) (c .if2 .taken), c .before .before .before .before .before .before .before .before .before .before .before .before .before .before .pre)
 
 offer-requires : tie.Need-offer-requires
 offer-requires c κs = offers-few _ _ _ _ _ _ (sym (c .before .offer-answer-of .ensures) ∙ c .if2 .left)
 
 returns-4 : tie.Need-returns-4
-unfolding offer offerRefusals
+unfolding offer offerRefusals fetched
 returns-4 c = let t = there (c .before .before .before .before .before .before .before .before .before) in let a = c .before .before .before .before .before .before .before .before .before .before .before .before .before .before .before .args in
     answered (λ (r : Done). r .book)
     ((λ i. record { answer = 0; book = withLedger (c .offer .ensures i) (a .self) })
