@@ -12,7 +12,7 @@ mod ending;
 mod instructing;
 mod opening;
 mod paying;
-mod reading;
+mod showing;
 
 // The settlement-discipline book of one bond.
 pub struct Book {
