@@ -1,4 +1,5 @@
--- Laws of the refusals: Refusals says what an answer number means, Offering how those of Offer go together.
+-- Laws of the refusals. Refusals: what an answer number means. Offering and Ending: what an Offer and a Close that pass
+-- those from their input were given.
 pub mod Refusals
 pub mod Offering
 pub mod Ending
