@@ -35,7 +35,8 @@ unfolding opened openRefusals
 open-refuses first ds terms = outcome-refuses (λ (r : Opened). r .answer) (openRefusals first ds terms) _ openRefused refl refl (λ n. refl)
 
 module _ (b : Book) where
-  entered-zero : (new : Leg) (r : Fit) → enteredBy b new r .answer ≡ 0
+  -- an Enter that is done answers 0, matched or not
+  pub entered-zero : (new : Leg) (r : Fit) → enteredBy b new r .answer ≡ 0
   unfolding enteredAlone enteredWith
   entered-zero new Nobody = refl
   entered-zero new (With k) = refl

@@ -46,6 +46,11 @@ abbrev pub dayNumber : NextDay → List ℕ
 dayNumber (At d) = d .0 ∷ []
 dayNumber Never = []
 
+-- the same as one number, 0 where there is none
+abbrev pub dayOrNone : NextDay → ℕ
+dayOrNone (At d) = d .0
+dayOrNone Never = 0
+
 -- the n-th clearing day after j, with these closed days
 abbrev pub nthDay : List Day → ℕ → ℕ → List ℕ
 nthDay closed j n = dayNumber (nthAfter closed (day j) (clearingDays n))

@@ -6,7 +6,11 @@ use calendar::NextDay;
 use libc::STDOUT_FILENO;
 use offers::Offer;
 use offers::Offers;
+ghost use mathlib.Core.Path.{_≡_};
 ghost use Prim.Native.Nat.{_≤_};
+ghost use Rattle.calendar.specs.Closed.{day, listed};
+ghost use Rattle.calendar.specs.Days.{clearingDays, nthAfter};
+ghost use Rattle.examples.specs.Table.{asNumber, dayOrNone, offerOf};
 
 // Prints one answer of an example and answers 1 where it is not the settled one, else 0.
 fn compared(item: u64, answer: u64, settled: u64) -> u64
@@ -26,7 +30,10 @@ fn compared(item: u64, answer: u64, settled: u64) -> u64
     1
 }
 
-fn as_number(test: bool) -> u64 {
+// 1 for yes, 0 for no.
+fn as_number(test: bool) -> u64
+    ensures { λ r. ⌜ r ≡ asNumber test ⌝ }
+{
     if test { 1 } else { 0 }
 }
 
@@ -99,7 +106,9 @@ fn months() -> u64
 }
 
 // The number of the n-th clearing day after day 2, or 0 where there is none.
-fn nth_after_2(closed: ClosedDays, n: u64) -> u64 {
+fn nth_after_2(closed: ClosedDays, n: u64) -> u64
+    ensures { λ r. ⌜ r ≡ dayOrNone (nthAfter (listed closed) (day 2) (clearingDays n)) ⌝ }
+{
     match closed.nth_after(Day(2), ClearingDays(n)) {
         NextDay::At(day) => day.0,
         NextDay::Never => 0,
@@ -118,7 +127,10 @@ fn clearing_days() -> u64
         + compared(9, nth_after_2(one_closed, 30), 45)
 }
 
-fn offered(supplier: u64, quantity: u64, price: u64) -> Offer {
+// An offer for obligation 0.
+fn offered(supplier: u64, quantity: u64, price: u64) -> Offer
+    ensures { λ r. ⌜ r ≡ offerOf supplier quantity price ⌝ }
+{
     Offer {
         obligation: 0,
         supplier: supplier,

@@ -67,14 +67,15 @@ withState n state s = record { rows = set (s .rows) n (inState state (legAt s n)
 abbrev pub withLeg : Leg → Legs → Legs
 withLeg l s = record { rows = set (s .rows) (s .count) l; count = s .count + 1 }
 
--- how many legs wait
+-- 1 for a leg that waits, else 0
 abbrev pub waitingOne : Leg → ℕ
 waitingOne l = pick (isWaiting (l .state)) 1 0
 
+-- how many legs wait
 unfoldable pub waiting : Legs → ℕ
 waiting s = total waitingOne (entered s)
 
--- what holds of every leg that waits
+-- what holds of every leg that was entered
 pub record SoundLeg (l : Leg) : Type 0 where
   pub amount-some : 1 ≤ l .amount
   pub amount-most : l .amount ≤ mostAmount

@@ -43,6 +43,7 @@ use Rattle.book.specs.Closing as closing
 use Rattle.book.specs.Month.{monthAnswer}
 use Rattle.book.specs.Month as month-rules
 use Rattle.book.proofs.Kept.{enter-valid, withdraw-valid, cancel-valid, deliver-valid, offer-valid, Good, good, matched-room}
+use Rattle.book.proofs.Refused.{entered-zero}
 use Rattle.book.proofs.Ended.{number-given, never-number}
 use Rattle.journal.specs.Calls.{Call, enter, withdraw, cancel, deliver, offer, close, month}
 use Rattle.journal.specs.Played.{outcome, eventOf}
@@ -188,11 +189,6 @@ module _ (b : Book) (v : Valid b) where
       rw (← made-deal new old (f .1))
       (moves-more b v (enteredWith b new k .book .legs) (obligationOf new old) (matched-room b v new k g e .1) (fresh-parts new old) w)
 
-  entered-zero : (new : Leg) (r : Fit) → enteredBy b new r .answer ≡ 0
-  unfolding enteredAlone enteredWith
-  entered-zero new Nobody = refl
-  entered-zero new (With k) = refl
-
   enter-moves : (member other side q a : ℕ) (j : Day) → Moves b (outcome b (enter member other side q a j) .book) (effect (eventOf b (enter member other side q a j)))
   unfolding rules.enter
   enter-moves member other side q a j =
@@ -200,7 +196,7 @@ module _ (b : Book) (v : Valid b) where
       let n = answer (enterRefusals (b .closed) (b .today) (b .legs .count) new) in
       by-number (λ (x : Entered). Valid (x .book) → Moves b (x .book) (pick (eqb (x .answer) 0) (instructing new (x .obligation)) quiet)) n _ (enterRefused b)
       (λ z w. refused-moves n (instructing new 0) z)
-      (λ e w. rw (entered-zero new (lowestFit (b .legs) new)) (entered-moves new (lowestFit (b .legs) new) (good b v new e) refl w))
+      (λ e w. rw (entered-zero b new (lowestFit (b .legs) new)) (entered-moves new (lowestFit (b .legs) new) (good b v new e) refl w))
       (enter-valid b v member other side q a j)
 
   -- ---- Close and Month

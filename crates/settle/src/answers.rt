@@ -4,15 +4,18 @@ use crate::calls::Results;
 use libc::STDOUT_FILENO;
 use reading::Line;
 use reading::Name;
+ghost use mathlib.Core.Path.{_≡_};
 ghost use Prim.Native.Nat.{_+_, _*_, _≤_};
 ghost use lib.ListN.{length};
 ghost use Rattle.settle.specs.Room.{mostLine, InPlace};
 
-// The answers so far are written.
-pub fn write_out(out: &[u8], end: usize)
+// The answers so far are written, and the next one goes to the front.
+pub fn write_out(out: &[u8], end: usize) -> usize
     requires { ⌜ end ≤ length (now out) ⌝ }
+    ensures { λ r. ⌜ r ≡ 0 ⌝ }
 {
     io::write_all(STDOUT_FILENO, &out[..end]);
+    0
 }
 
 // Where the next line goes: the answers so far are written first if there is no room for it behind them.
@@ -23,8 +26,7 @@ fn with_room(out: &[u8], end: usize) -> usize
     if end <= out.len() - 160 {
         return end;
     }
-    write_out(out, end);
-    0
+    write_out(out, end)
 }
 
 // An answer in numbers.
