@@ -7,19 +7,23 @@ use lib.Dec.{ltb, leb}
 use Rattle.basics.specs.Choice.{pick}
 use Rattle.amounts.specs.Quotients.{rounded}
 
--- 01, Refusals, 2 and 3: the largest quantity, amount, price of a Close, price of an offer, and rate
+-- 01, Refusals, 2: the largest quantity
 abbrev pub mostQuantity : ℕ
 mostQuantity = 100000
 
+-- 01, Refusals, 3: the largest amount of an instruction
 abbrev pub mostAmount : ℕ
 mostAmount = 20000000000
 
+-- 01, Refusals, 3: the highest price of a Close
 abbrev pub mostClosePrice : ℕ
 mostClosePrice = 150000
 
+-- 01, Refusals, 3: the highest price of an offer
 abbrev pub mostOfferPrice : ℕ
 mostOfferPrice = 200000
 
+-- 01, Refusals, 3: the highest rate
 abbrev pub mostRate : ℕ
 mostRate = 100
 

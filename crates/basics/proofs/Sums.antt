@@ -7,8 +7,10 @@ use mathlib.Core.Path.{_≡_, refl}
 use mathlib.Core.List.{List, [], _∷_, _++_}
 use lib.ListN.{length, getD, set, drop, drop-of-length-le}
 use lib.Seq.{drop-cons}
-use Rattle.basics.specs.Lists.{total, sum}
+use Rattle.basics.specs.Lists.{total, sum, Every}
+use Rattle.basics.specs.Lists.Every.{nobody, also}
 
+-- the sum over a list and another behind it
 pub total-append : {A : Type 0} (f : A → ℕ) (xs ys : List A) → total f (xs ++ ys) ≡ total f xs + total f ys
 unfolding total
 total-append f [] ys = omega arith
@@ -47,3 +49,9 @@ unfolding total
 total-set f [] i v d h = absurd (omega arith)
 total-set f (x ∷ xs) zero v d h = omega arith
 total-set f (x ∷ xs) (suc i) v d h = omega (arith, total-set f xs i v d (omega arith))
+
+-- a sum of zeros
+pub total-none : {A : Type 0} (f : A → ℕ) {xs : List A} → Every (λ x. f x ≡ 0) xs → total f xs ≡ 0
+unfolding total
+total-none f nobody = refl
+total-none f (also e es) = omega (arith, total-none f es)

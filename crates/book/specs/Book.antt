@@ -13,7 +13,7 @@ use Rattle.ledger.specs.declared.Ledger.{Ledger}
 use Rattle.ledger.specs.Ledger.{obligationAt, ValidLedger}
 use Rattle.book.specs.declared.Book.{Book}
 
--- the book with other legs, or another ledger, or both
+-- the book with other legs
 abbrev pub withLegs : Legs → Book → Book
 withLegs legs b = record {
   closed = b .closed;
@@ -24,6 +24,7 @@ withLegs legs b = record {
   ledger = b .ledger;
 }
 
+-- the book with another ledger
 abbrev pub withLedger : Ledger → Book → Book
 withLedger l b = record {
   closed = b .closed;

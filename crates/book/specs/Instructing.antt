@@ -62,6 +62,7 @@ enteredWith b new k = record {
       (withLedger (withNew (obligationOf new (legAt (b .legs) k)) (b .ledger)) b);
 }
 
+-- an Enter that is done, by the leg that the new one matches, if there is one
 abbrev pub enteredBy : Book → Leg → Fit → Entered
 enteredBy b new Nobody = enteredAlone b new
 enteredBy b new (With k) = enteredWith b new k

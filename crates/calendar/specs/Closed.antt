@@ -13,7 +13,7 @@ use Rattle.calendar.specs.declared.ClosedDays.{ClosedDays}
 abbrev pub day : ℕ → Day
 day d = record { 0 = d }
 
--- 01, Days and units: day 0 is Saturday 1 January 2000, and this is the last day
+-- 01, Days and units: days run to 65,535; day 0 is Saturday 1 January 2000
 abbrev pub lastDay : ℕ
 lastDay = 65535
 

@@ -37,6 +37,7 @@ unfoldable pub nthFrom : List Day → Day → ℕ → NextDay
 nthFrom cs d zero = At d
 nthFrom cs d (suc n) = nextOf cs (nthFrom cs d n)
 
+-- the same for a count of clearing days
 unfoldable pub nthAfter : List Day → Day → ClearingDays → NextDay
 nthAfter cs d n = nthFrom cs d (n .0)
 

@@ -14,7 +14,7 @@ use Rattle.netting.specs.Accounts.{balance, Bounded, Transferable}
 use Rattle.netting.proofs.Transfers.{transferred-length, transferred-balance, transferred-abs}
 use Rattle.ledger.specs.declared.Obligation.{Obligation}
 use Rattle.ledger.specs.declared.Ledger.{Ledger}
-use Rattle.ledger.specs.Obligations.{isDue, Sound}
+use Rattle.ledger.specs.Obligations.{noObligation, isDue, Sound}
 use Rattle.ledger.specs.Ledger.{obligationAt, ValidLedger}
 use Rattle.ledger.proofs.Keeping.{outstanding-most}
 use Rattle.closing.specs.Close.{fined, accountsUpTo}
@@ -75,3 +75,15 @@ module _ (today : Day) (price rate : ℕ) (l : Ledger) (v : ValidLedger l) (p : 
 
   pub bounded-up-to : (n : ℕ) → n ≤ l .count → Near (l .accounts) → Bounded (upTo n)
   bounded-up-to n h g m = omega (arith, charged-up-to n h .near m, g m, v .few)
+
+-- there are as many accounts as before
+pub accounts-length : (today : Day) (price rate : ℕ) (os : List Obligation) (accounts : List ℤ) (n : ℕ) → length (accountsUpTo today price rate os accounts n) ≡ length accounts
+unfolding accountsUpTo fined
+accounts-length today price rate os accounts zero = refl
+accounts-length today price rate os accounts (suc n) =
+    let o : Obligation = getD os n noObligation in
+    let before : List ℤ = accountsUpTo today price rate os accounts n in
+    pick-case (λ (a : List ℤ). length a ≡ length before) (isDue today o) _ _
+    (λ e. transferred-length (o .seller) (o .buyer) (penalty (o .parts .outstanding) price rate) before)
+    (λ e. refl)
+    ∙ accounts-length today price rate os accounts n

@@ -26,9 +26,11 @@ pub record Made : Type 0 where
   pub obligation : Obligation
   pub lines : List Line
 
+-- a part that leaves the obligation as it is and has no line
 abbrev pub nothing : Obligation → Made
 nothing o = record { obligation = o; lines = [] }
 
+-- a part with one line
 abbrev pub one : Obligation → Line → Made
 one o l = record { obligation = o; lines = l ∷ [] }
 

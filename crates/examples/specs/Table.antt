@@ -28,6 +28,7 @@ use Rattle.book.specs.Closing.{linesOf, close}
 use Rattle.book.specs.Month.{monthWords}
 use Rattle.closing.specs.Lines.{flat}
 
+-- a row of the table: the item, what the definitions give, and what the rules print
 pub record Row : Type 0 where
   pub item : ℕ
   pub computed : List ℕ

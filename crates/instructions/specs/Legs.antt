@@ -26,7 +26,7 @@ isWaiting (Matched n) = false
 abbrev pub noLeg : Leg
 noLeg = record { member = 0; other = 0; side = 0; quantity = 0; amount = 0; day = day 0; state = Withdrawn }
 
--- 01, Instructions: a book holds 128 legs over its whole life
+-- 01, Instructions: a book holds 128 legs over its whole life; a fresh one has none of them
 abbrev pub noLegs : Legs
 noLegs = record { rows = replicate 128 noLeg; count = 0 }
 

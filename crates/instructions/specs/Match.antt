@@ -11,10 +11,11 @@ use Rattle.instructions.specs.declared.Fit.{Fit}
 use Rattle.instructions.specs.declared.Fit.the-variants.{With, Nobody}
 use Rattle.instructions.specs.Legs.{isWaiting, entered}
 
--- 01, Enter: side 0 delivers; of two legs, the one that delivers and the one that receives
+-- 01, Enter: side 0 delivers; of two legs, the one that delivers
 abbrev pub delivering : Leg → Leg → Leg
 delivering l other = pick (eqb (l .side) 0) l other
 
+-- 01, Enter: side 1 receives; of two legs, the one that receives
 abbrev pub receiving : Leg → Leg → Leg
 receiving l other = pick (eqb (l .side) 0) other l
 

@@ -6,17 +6,15 @@ use mathlib.Core.Bool.{Bool, true, false}
 use mathlib.Core.List.{List, [], _∷_, _++_}
 use mathlib.Core.Option.{Option, some}
 use lib.Dec.{eqb}
-use lib.IntN.{ℤ, pos, negℤ, _+ℤ_, _-ℤ_, +ℤ-assoc, +ℤ-idl, +ℤ-idr}
+use lib.IntN.{ℤ, pos, _+ℤ_, _-ℤ_, +ℤ-assoc, +ℤ-idl, +ℤ-idr}
 use lib.ListN.{length, getD}
-use borrow.Author.Tests.{eqb-true, eqb-false}
 use Rattle.basics.specs.Choice.{pick}
 use Rattle.basics.specs.Lists.{Every}
 use Rattle.basics.specs.Lists.Every.{nobody, also}
-use Rattle.basics.proofs.Cases.{pick-case}
 use Rattle.calendar.specs.declared.Day.{Day}
 use Rattle.amounts.specs.Amounts.{penalty}
 use Rattle.netting.specs.Accounts.{transferred}
-use Rattle.netting.proofs.Transfers.{transferred-length, transferred-debtor, transferred-creditor, transferred-other}
+use Rattle.netting.proofs.Transfers.{transferred-credit}
 use Rattle.offers.specs.declared.Offer.{Offer}
 use Rattle.ledger.specs.declared.Obligation.{Obligation}
 use Rattle.ledger.specs.Obligations.{noObligation, isDue}
@@ -26,6 +24,7 @@ use Rattle.closing.specs.Lines.{Made, then}
 use Rattle.closing.specs.Stages.{penalised}
 use Rattle.closing.specs.Close.{closedOne, closedAt, linesUpTo, fined, accountsUpTo}
 use Rattle.closing.proofs.Parts.{priced-parts}
+use Rattle.closing.proofs.Fines.{accounts-length}
 use Rattle.journal.specs.Effects.{Deal}
 use Rattle.journal.specs.Sums.{creditOf, penaltiesOf}
 use Rattle.journal.proofs.Reported.{Behind, Part, closed-by}
@@ -73,20 +72,6 @@ pub record Parties (o : Obligation) (x : Option Deal) : Type 0 where
   pub seller : deal .seller ≡ o .seller
   pub buyer : deal .buyer ≡ o .buyer
 
--- what a transfer does to an account is what its cents credit to it
-transferred-credit : (seller buyer cents : ℕ) (accounts : List ℤ) → seller < length accounts → buyer < length accounts → (seller ≡ buyer → ⊥) → (m : ℕ) →
-    getD (transferred seller buyer cents accounts) m (pos 0) ≡ getD accounts m (pos 0) +ℤ (pick (eqb buyer m) (pos cents) (pos 0) -ℤ pick (eqb seller m) (pos cents) (pos 0))
-transferred-credit seller buyer cents accounts s b apart m = by (eqb seller m) (eqb buyer m) refl refl
-  where
-    by : (t u : Bool) → eqb seller m ≡ t → eqb buyer m ≡ u →
-        getD (transferred seller buyer cents accounts) m (pos 0) ≡ getD accounts m (pos 0) +ℤ (pick u (pos cents) (pos 0) -ℤ pick t (pos cents) (pos 0))
-    by true true e f = absurd (apart (eqb-true seller m e ∙ sym (eqb-true buyer m f)))
-    by true false e f = rw (← eqb-true seller m e, +ℤ-idl (negℤ (pos cents))) (transferred-debtor seller buyer cents accounts s apart)
-    by false true e f = rw (← eqb-true buyer m f, +ℤ-idr (pos cents)) (transferred-creditor seller buyer cents accounts b apart)
-    by false false e f =
-        transferred-other seller buyer cents accounts m (λ x. eqb-false seller m e (sym x)) (λ x. eqb-false buyer m f (sym x))
-        ∙ sym (+ℤ-idr (getD accounts m (pos 0)))
-
 -- what cents on a deal of these parties credit to a member
 parties-credit : (o : Obligation) (x : Option Deal) → Parties o x → (m cents : ℕ) →
     creditOf m cents x ≡ pick (eqb (o .buyer) m) (pos cents) (pos 0) -ℤ pick (eqb (o .seller) m) (pos cents) (pos 0)
@@ -104,18 +89,6 @@ fined-credit today price rate o accounts x s b apart p m = by (isDue today o) (p
         getD (pick t (transferred (o .seller) (o .buyer) cents accounts) accounts) m (pos 0) ≡ getD accounts m (pos 0) +ℤ pick t (creditOf m cents x) (pos 0)
     by true cents = rw (parties-credit o x p m cents) (transferred-credit (o .seller) (o .buyer) cents accounts s b apart m)
     by false cents = sym (+ℤ-idr (getD accounts m (pos 0)))
-
--- there are as many accounts as before
-accounts-length : (today : Day) (price rate : ℕ) (os : List Obligation) (accounts : List ℤ) (n : ℕ) → length (accountsUpTo today price rate os accounts n) ≡ length accounts
-unfolding accountsUpTo fined
-accounts-length today price rate os accounts zero = refl
-accounts-length today price rate os accounts (suc n) =
-    let o : Obligation = getD os n noObligation in
-    let before : List ℤ = accountsUpTo today price rate os accounts n in
-    pick-case (λ (a : List ℤ). length a ≡ length before) (isDue today o) _ _
-    (λ e. transferred-length (o .seller) (o .buyer) (penalty (o .parts .outstanding) price rate) before)
-    (λ e. refl)
-    ∙ accounts-length today price rate os accounts n
 
 -- what the penalties of a Close do to each account is what its lines of kind 1 say
 pub accounts-reported : (d : DayEnd) (offers : List Offer) (os : List Obligation) (accounts : List ℤ) (deals : ℕ → Option Deal) (n : ℕ) →

@@ -13,8 +13,7 @@ use Rattle.basics.specs.Lists.{total, Every}
 use Rattle.basics.specs.Lists.Every.{nobody, also}
 use Rattle.basics.proofs.Cases.{pick-case, last-or-below}
 use Rattle.basics.proofs.Everywhere.{every-map, every-append}
-use Rattle.basics.proofs.Sums.{total-append}
-use Rattle.calendar.specs.Closed.{listed as closedListed}
+use Rattle.basics.proofs.Sums.{total-append, total-none}
 use Rattle.calendar.specs.Days.{ageAt}
 use Rattle.offers.specs.declared.Offer.{Offer}
 use Rattle.offers.specs.declared.Given.{Given}
@@ -30,13 +29,8 @@ use Rattle.closing.specs.Stages.{priced, penalised, noticeAt, boughtFrom, bough
 use Rattle.closing.specs.Close.{stages, closedOne, closedAt, linesUpTo}
 use Rattle.closing.proofs.Parts.{priced-parts}
 use Rattle.journal.specs.Effects.{linesRead}
+use Rattle.calendar.specs.Closed.{listed as closedListed}
 use Rattle.journal.specs.Sums.{quantityOf}
-
--- a sum of zeros
-total-none : {A : Type 0} (f : A → ℕ) {xs : List A} → Every (λ x. f x ≡ 0) xs → total f xs ≡ 0
-unfolding total
-total-none f nobody = refl
-total-none f (also e es) = omega (arith, total-none f es)
 
 -- a line of another obligation counts for nothing
 other-none : (kind k : ℕ) (l : Line) → (l .obligation ≡ k → ⊥) → quantityOf kind k l ≡ 0

@@ -25,12 +25,15 @@ use Rattle.journal.specs.Effects.{Deal, effect}
 abbrev pub openedWith : {A : Type 0} → Opening → A → A → A
 openedWith o given refused = outcome (answer (openRefusals (o .first) (o .closed) (o .terms))) given (λ n. refused)
 
+-- 01, Open: the first day
 abbrev pub firstDay : Opening → Day
 firstDay o = openedWith o (o .first) (day 2)
 
+-- 01, Open: the closed days
 abbrev pub closedIn : Opening → ClosedDays
 closedIn o = openedWith o (closedDays (o .closed)) (closedDays [])
 
+-- 01, Open: the terms
 abbrev pub termsIn : Opening → Terms
 termsIn o = openedWith o (termsOf (o .terms)) (termsOf 0)
 
@@ -66,10 +69,11 @@ quantityOf kind n l = pick (eqb (l .kind) kind && eqb (l .obligation) n) (l .qua
 unfoldable pub reportedIn : ℕ → ℕ → List Event → ℕ
 reportedIn kind n es = total (λ e. total (quantityOf kind n) (effect e .lines)) es
 
--- 01, Whole journals: bought in are the lines of kind 3, compensated those of kind 4
+-- 01, Whole journals: bought in are the lines of kind 3
 abbrev pub boughtIn : ℕ → List Event → ℕ
 boughtIn = reportedIn 3
 
+-- 01, Whole journals: compensated are the lines of kind 4
 abbrev pub compensatedIn : ℕ → List Event → ℕ
 compensatedIn = reportedIn 4
 

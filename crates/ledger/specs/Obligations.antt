@@ -29,7 +29,7 @@ noObligation = record {
   «grace_price» = 0;
 }
 
--- the parties and the terms of an obligation with other parts, wishes or price at age = grace
+-- an obligation with other parts
 abbrev pub withParts : Parts → Obligation → Obligation
 withParts p o = record {
   seller = o .seller;
@@ -43,6 +43,7 @@ withParts p o = record {
   «grace_price» = o .«grace_price»;
 }
 
+-- an obligation with other wishes
 abbrev pub withWishes : Bool → Bool → Obligation → Obligation
 withWishes s b o = record {
   seller = o .seller;
@@ -56,6 +57,7 @@ withWishes s b o = record {
   «grace_price» = o .«grace_price»;
 }
 
+-- an obligation with another price at age = grace
 abbrev pub withGracePrice : ℕ → Obligation → Obligation
 withGracePrice price o = record {
   seller = o .seller;

@@ -5,12 +5,13 @@ use mathlib.Core.Bool.{Bool, true, false}
 use mathlib.Core.List.{List, [], _∷_}
 use mathlib.Core.Path.{_≡_, refl, sym, ap, _∙_}
 use lib.Dec.{eqb}
-use lib.IntN.{ℤ, pos, negℤ, _+ℤ_, _-ℤ_, natAbs, +ℤ-assoc, +ℤ-comm, -ℤ-+ℤ-cancel}
+use lib.IntN.{ℤ, pos, negℤ, _+ℤ_, _-ℤ_, natAbs, +ℤ-assoc, +ℤ-comm, +ℤ-idl, +ℤ-idr, -ℤ-+ℤ-cancel}
 use lib.ListN.{length, getD, set, length-set}
 use lib.Seq.{getD-set-same, getD-set-other, set-set, set-getD}
 use mir.Syntax.{w64}
 use mir.Val.{SFits, toZ}
 use borrow.Author.Tests.{eqb-true, eqb-false}
+use Rattle.basics.specs.Choice.{pick}
 use Rattle.netting.specs.Accounts.{debited, credited, transferred, balance, Transferable}
 use Rattle.netting.proofs.Signed.{read, sum-abs, negative-abs, plus-fits, plus-is, minus-fits, minus-is}
 
@@ -140,3 +141,17 @@ module _ (d c n : ℕ) (accounts : List ℤ) (t : Transferable d c n accounts) (
   unfolding transferred credited debited
   transfer-is =
       ap (λ (z : ℤ). set (set accounts d debit) c z) (plus-is due n due-small) ∙ ap (moved c (pos n)) debit-is
+
+-- what a transfer does to an account is what its cents credit to it
+pub transferred-credit : (seller buyer cents : ℕ) (accounts : List ℤ) → seller < length accounts → buyer < length accounts → (seller ≡ buyer → ⊥) → (m : ℕ) →
+    getD (transferred seller buyer cents accounts) m (pos 0) ≡ getD accounts m (pos 0) +ℤ (pick (eqb buyer m) (pos cents) (pos 0) -ℤ pick (eqb seller m) (pos cents) (pos 0))
+transferred-credit seller buyer cents accounts s b apart m = by (eqb seller m) (eqb buyer m) refl refl
+  where
+    by : (t u : Bool) → eqb seller m ≡ t → eqb buyer m ≡ u →
+        getD (transferred seller buyer cents accounts) m (pos 0) ≡ getD accounts m (pos 0) +ℤ (pick u (pos cents) (pos 0) -ℤ pick t (pos cents) (pos 0))
+    by true true e f = absurd (apart (eqb-true seller m e ∙ sym (eqb-true buyer m f)))
+    by true false e f = rw (← eqb-true seller m e, +ℤ-idl (negℤ (pos cents))) (transferred-debtor seller buyer cents accounts s apart)
+    by false true e f = rw (← eqb-true buyer m f, +ℤ-idr (pos cents)) (transferred-creditor seller buyer cents accounts b apart)
+    by false false e f =
+        transferred-other seller buyer cents accounts m (λ x. eqb-false seller m e (sym x)) (λ x. eqb-false buyer m f (sym x))
+        ∙ sym (+ℤ-idr (getD accounts m (pos 0)))

@@ -28,10 +28,11 @@ givenBy left (x ∷ xs) = withGiven x (min (x .quantity) left) (givenBy (left - 
 unfoldable pub given : ℕ → ℕ → List Offer → List Given
 given i left xs = givenBy left (offersFor i xs)
 
--- the units given, and the units offered
+-- the units given
 abbrev pub units : List Given → ℕ
 units = total (λ g. g .quantity)
 
+-- the units offered
 abbrev pub offered : List Offer → ℕ
 offered = total (λ x. x .quantity)
 

@@ -14,7 +14,7 @@ noOffer = record { obligation = 0; supplier = 0; quantity = 0; price = 0 }
 abbrev pub noOffers : Offers
 noOffers = record { rows = replicate 64 noOffer; count = 0 }
 
--- 01, Buy-in: the offers of today, in the order of the auction
+-- 01, Buy-in: the offers of today, in the order of the auction; the rows behind them are free
 abbrev pub listed : Offers → List Offer
 listed s = take (s .count) (s .rows)
 

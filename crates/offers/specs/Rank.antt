@@ -20,6 +20,7 @@ unfoldable pub insertedBy : {A : Type 0} → (A → A → Bool) → A → List A
 insertedBy over o [] = o ∷ []
 insertedBy over o (y ∷ ys) = pick (over o y) (o ∷ y ∷ ys) (y ∷ insertedBy over o ys)
 
+-- the same for offers
 abbrev pub inserted : Offer → List Offer → List Offer
 inserted = insertedBy overtakes
 
@@ -28,6 +29,7 @@ unfoldable pub rankedBy : {A : Type 0} → (A → A → Bool) → List A → Lis
 rankedBy over [] = []
 rankedBy over (o ∷ earlier) = insertedBy over o (rankedBy over earlier)
 
+-- 01, Close, offers: by rising price, then larger quantity, then earlier entry
 abbrev pub ranked : List Offer → List Offer
 ranked = rankedBy overtakes
 

@@ -22,6 +22,7 @@ pub record Naming : Type 0 where
   pub word : List ℕ
   pub name : Name
 
+-- a call with its name
 abbrev naming : List ℕ → Name → Naming
 naming w n = record { word = w; name = n }
 

@@ -1,2 +1,6 @@
--- Laws that the program rests on. Lengths: how long what is written is.
-pub mod Lengths
+-- Laws that the program rests on. Asking: what a line asks. Lending: the words that a call is lent. Flows: where the
+-- input and the output stand. Turning: from turn to turn.
+pub mod Asking
+pub mod Lending
+pub mod Flows
+pub mod Turning

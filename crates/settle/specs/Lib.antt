@@ -1,2 +1,6 @@
--- What the program keeps from line to line. Room: places in its buffers.
-pub mod Room
+-- What the program does with a journal. Asked: what a line asks. Calls: the call of it on the book. Flow: bytes in and
+-- out. Turns: all of it, from line to line.
+pub mod Asked
+pub mod Calls
+pub mod Flow
+pub mod Turns

@@ -1,17 +1,20 @@
 // What a line asks, and the call of it on the book.
-use crate::lines::Taken;
+use answers::Answer;
 use book::Book;
 use calendar::Day;
+use lines::Taken;
 use reading::Line;
 use reading::Name;
 ghost use mathlib.Core.Path.{_≡_};
 ghost use mathlib.Core.Bool.{true};
-ghost use mathlib.Core.List.{[]};
+ghost use mathlib.Core.List.{_++_};
 ghost use Prim.Native.Nat.{_-_, _≤_};
-ghost use lib.ListN.{length, getD, take};
+ghost use lib.ListN.{length, getD, take, drop, replicate};
 ghost use Rattle.book.specs.Book.{Valid};
 ghost use Rattle.reading.specs.Calls.{mostListed, mostNumbers, shapeRight};
-ghost use Rattle.settle.specs.Room.{Listed, InPlace};
+ghost use Rattle.settle.specs.Asked.{nothingAsked, askedWith, askedLent, askedCall, asks, noted, Listed};
+ghost use Rattle.settle.specs.Calls.{atFirst, opens, enters, withdraws, cancels, delivers, offers, closes};
+ghost use Rattle.settle.specs.Calls.{closeWordsOf, months, monthWordsOf, shows, balances, LooksAs};
 
 // What a line asks. A call has its first six numbers, as far as it has them; the places of its list among its numbers;
 // and how many words it is lent, with what they are filled.
@@ -29,24 +32,15 @@ pub struct Asked {
     pub fill: u64,
 }
 
-// The results of a call: numbers, of which the first few are its answer; signed cents; and how many lines of six words
-// stand in the words that were lent.
-pub struct Results {
-    pub numbers: [u64; 7],
-    pub count: usize,
-    pub cents: i64,
-    pub lines: usize,
-}
-
-// The book after a line, and the results.
-pub struct Answered {
+// The book after a line, and the answer.
+pub struct Played {
     pub book: Book,
-    pub results: Results,
+    pub answer: Answer,
 }
 
 // A line that asks nothing of the book.
 fn asks_nothing(line: Line) -> Asked
-    ensures { λ r. ⌜ Listed r [] ⌝ }
+    ensures { λ r. ⌜ r ≡ nothingAsked line ⌝ }
 {
     Asked {
         line: line,
@@ -65,8 +59,8 @@ fn asks_nothing(line: Line) -> Asked
 
 // A call with its lists.
 fn asks_with(line: Line, n: &[u64], from: usize, to: usize, lent: usize, fill: u64) -> Asked
-    requires { ⌜ (6 ≤ length (now n)) × (from ≤ to) × (to ≤ length (now n)) × (lent ≤ mostListed) ⌝ }
-    ensures { λ r. ⌜ Listed r (now (n .entry)) ⌝ }
+    requires { ⌜ 6 ≤ length (now n) ⌝ }
+    ensures { λ r. ⌜ r ≡ askedWith line (now (n .entry)) from to lent fill ⌝ }
 {
     Asked {
         line: line,
@@ -87,8 +81,7 @@ fn asks_with(line: Line, n: &[u64], from: usize, to: usize, lent: usize, fill: u
 // front of them, from the second number on, stand the amounts of a month.
 fn asks_lent(line: Line, n: &[u64], count: usize) -> Asked
     requires { ⌜ (3 ≤ count) × (count ≤ length (now n)) × (6 ≤ length (now n)) ⌝ }
-    requires { ⌜ getD (now n) (count - 2) 0 ≤ mostListed ⌝ }
-    ensures { λ r. ⌜ Listed r (now (n .entry)) ⌝ }
+    ensures { λ r. ⌜ r ≡ askedLent line (now (n .entry)) count ⌝ }
 {
     let to = count - 2;
     asks_with(line, n, 1, to, n[to] as usize, n[count - 1])
@@ -98,7 +91,7 @@ fn asks_lent(line: Line, n: &[u64], count: usize) -> Asked
 fn asks_call(name: Name, count: usize, n: &[u64]) -> Asked
     requires { ⌜ mostNumbers ≤ length (now n) ⌝ }
     requires { ⌜ (shapeRight name (take count (now n)) ≡ true) × (count ≤ length (now n)) ⌝ }
-    ensures { λ r. ⌜ Listed r (now (n .entry)) ⌝ }
+    ensures { λ r. ⌜ r ≡ askedCall name count (now (n .entry)) ⌝ }
 {
     let line = Line::Call(name, count);
     match name {
@@ -112,7 +105,9 @@ fn asks_call(name: Name, count: usize, n: &[u64]) -> Asked
 // What the line asks that was taken, once it has ended.
 pub fn ask(taken: Taken, line: &[u8], n: &mut [u64]) -> Asked
     requires { ⌜ (taken .size ≤ length (now line)) × (mostNumbers ≤ length (now n)) ⌝ }
-    ensures { λ r. ⌜ Listed r (now (n .entry)) ⌝ }
+    ensures { λ r. ⌜ r ≡ asks taken (now (line .entry)) (now (n .entry)) ⌝ }
+    ensures { λ r. ⌜ now (n .exit) ≡ noted taken (now (line .entry)) (now (n .entry)) ⌝ }
+    ensures { λ r. ⌜ Listed r (now (n .exit)) ⌝ }
 {
     if taken.ends {} else {
         return asks_nothing(Line::Comment);
@@ -125,93 +120,90 @@ pub fn ask(taken: Taken, line: &[u8], n: &mut [u64]) -> Asked
     }
 }
 
-// A few numbers as results.
-fn numbers(count: usize, answer: u64, second: u64, third: u64) -> Results
-    requires { ⌜ count ≤ 3 ⌝ }
-    ensures { λ r. ⌜ InPlace r [] ⌝ }
-{
-    Results {
-        numbers: [answer, second, third, 0, 0, 0, 0],
-        count: count,
-        cents: 0,
-        lines: 0,
-    }
-}
-
-// The book with the results of a call.
-fn with(book: Book, results: Results) -> Answered
-    requires { ⌜ Valid book ⌝ }
-    ensures { λ r. ⌜ Valid (r .book) ⌝ }
-    ensures { λ r. ⌜ (r .results .count ≡ results .count) × (r .results .lines ≡ results .lines) ⌝ }
-{
-    Answered {
-        book: book,
-        results: results,
-    }
-}
-
-fn open(a: Asked, n: &[u64]) -> Answered
+pub fn open(a: Asked, n: &[u64]) -> Played
     requires { ⌜ Listed a (now n) ⌝ }
-    ensures { λ r. ⌜ (Valid (r .book)) × (InPlace (r .results) []) ⌝ }
+    ensures { λ r. ⌜ r ≡ opens a (now (n .entry)) ⌝ }
+    ensures { λ r. ⌜ Valid (r .book) ⌝ }
 {
     let from = a.from;
     let to = a.to;
-    let opened = Book::open(Day(a.first), &n[from..to], a.second);
-    with(opened.book, numbers(1, opened.answer, 0, 0))
+    let done = Book::open(Day(a.first), &n[from..to], a.second);
+    let after = done.book;
+    Played {
+        book: after,
+        answer: Answer::numbers(1, done.answer, 0, 0),
+    }
 }
 
-fn enter(book: Book, a: Asked) -> Answered
+pub fn enter(book: Book, a: Asked) -> Played
     requires { ⌜ Valid book ⌝ }
-    ensures { λ r. ⌜ (Valid (r .book)) × (InPlace (r .results) []) ⌝ }
+    ensures { λ r. ⌜ r ≡ enters book a ⌝ }
+    ensures { λ r. ⌜ Valid (r .book) ⌝ }
 {
-    let entered = book.enter(a.first, a.second, a.third, a.fourth, a.fifth, Day(a.sixth));
-    with(
-        entered.book,
-        numbers(3, entered.answer, entered.leg, entered.obligation),
-    )
+    let done = book.enter(a.first, a.second, a.third, a.fourth, a.fifth, Day(a.sixth));
+    let after = done.book;
+    Played {
+        book: after,
+        answer: Answer::numbers(3, done.answer, done.leg, done.obligation),
+    }
 }
 
-fn withdraw(book: Book, a: Asked) -> Answered
+pub fn withdraw(book: Book, a: Asked) -> Played
     requires { ⌜ Valid book ⌝ }
-    ensures { λ r. ⌜ (Valid (r .book)) × (InPlace (r .results) []) ⌝ }
+    ensures { λ r. ⌜ r ≡ withdraws book a ⌝ }
+    ensures { λ r. ⌜ Valid (r .book) ⌝ }
 {
     let done = book.withdraw(a.first, a.second);
-    with(done.book, numbers(1, done.answer, 0, 0))
+    let after = done.book;
+    Played {
+        book: after,
+        answer: Answer::numbers(1, done.answer, 0, 0),
+    }
 }
 
-fn cancel(book: Book, a: Asked) -> Answered
+pub fn cancel(book: Book, a: Asked) -> Played
     requires { ⌜ Valid book ⌝ }
-    ensures { λ r. ⌜ (Valid (r .book)) × (InPlace (r .results) []) ⌝ }
+    ensures { λ r. ⌜ r ≡ cancels book a ⌝ }
+    ensures { λ r. ⌜ Valid (r .book) ⌝ }
 {
-    let cancelled = book.cancel(a.first, a.second);
-    with(
-        cancelled.book,
-        numbers(2, cancelled.answer, cancelled.moved, 0),
-    )
+    let done = book.cancel(a.first, a.second);
+    let after = done.book;
+    Played {
+        book: after,
+        answer: Answer::numbers(2, done.answer, done.moved, 0),
+    }
 }
 
-fn deliver(book: Book, a: Asked) -> Answered
+pub fn deliver(book: Book, a: Asked) -> Played
     requires { ⌜ Valid book ⌝ }
-    ensures { λ r. ⌜ (Valid (r .book)) × (InPlace (r .results) []) ⌝ }
+    ensures { λ r. ⌜ r ≡ delivers book a ⌝ }
+    ensures { λ r. ⌜ Valid (r .book) ⌝ }
 {
-    let delivered = book.deliver(a.first, a.second);
-    with(
-        delivered.book,
-        numbers(2, delivered.answer, delivered.cash, 0),
-    )
+    let done = book.deliver(a.first, a.second);
+    let after = done.book;
+    Played {
+        book: after,
+        answer: Answer::numbers(2, done.answer, done.cash, 0),
+    }
 }
 
-fn offer(book: Book, a: Asked) -> Answered
+pub fn offer(book: Book, a: Asked) -> Played
     requires { ⌜ Valid book ⌝ }
-    ensures { λ r. ⌜ (Valid (r .book)) × (InPlace (r .results) []) ⌝ }
+    ensures { λ r. ⌜ r ≡ offers book a ⌝ }
+    ensures { λ r. ⌜ Valid (r .book) ⌝ }
 {
     let done = book.offer(a.first, a.second, a.third, a.fourth);
-    with(done.book, numbers(1, done.answer, 0, 0))
+    let after = done.book;
+    Played {
+        book: after,
+        answer: Answer::numbers(1, done.answer, 0, 0),
+    }
 }
 
 // The first places are filled.
 fn fill(words: &mut [u64], count: usize, value: u64)
     requires { ⌜ count ≤ length (now words) ⌝ }
+    ensures { λ _. ⌜ now (words .exit) ≡ replicate count value ++ drop count (now (words .entry)) ⌝ }
 {
     let mut i = 0;
     while i < count {
@@ -220,117 +212,84 @@ fn fill(words: &mut [u64], count: usize, value: u64)
     }
 }
 
-fn close(book: Book, a: Asked, words: &mut [u64]) -> Answered
+pub fn close(book: Book, a: Asked, words: &mut [u64]) -> Played
     requires { ⌜ (Valid book) × (a .lent ≤ length (now words)) ⌝ }
-    ensures { λ r. ⌜ (Valid (r .book)) × (InPlace (r .results) (now (words .entry))) ⌝ }
+    ensures { λ r. ⌜ r ≡ closes book a ⌝ }
+    ensures { λ r. ⌜ now (words .exit) ≡ closeWordsOf book a (now (words .entry)) ⌝ }
+    ensures { λ r. ⌜ Valid (r .book) ⌝ }
 {
     let lent = a.lent;
     fill(words, lent, a.fill);
-    let closed = book.close(a.first, a.second, &mut words[..lent]);
-    let results = Results {
-        numbers: [closed.answer, closed.count as u64, 0, 0, 0, 0, 0],
-        count: 2,
-        cents: 0,
-        lines: closed.count,
-    };
-    with(closed.book, results)
+    let done = book.close(a.first, a.second, &mut words[..lent]);
+    let after = done.book;
+    Played {
+        book: after,
+        answer: Answer::closed(done.answer, done.count, lent, a.fill),
+    }
 }
 
-fn month(book: Book, a: Asked, n: &[u64], words: &mut [u64]) -> Answered
+pub fn month(book: Book, a: Asked, n: &[u64], words: &mut [u64]) -> Played
     requires { ⌜ (Valid book) × (Listed a (now n)) × (a .lent ≤ length (now words)) ⌝ }
-    ensures { λ r. ⌜ (Valid (r .book)) × (InPlace (r .results) []) ⌝ }
+    ensures { λ r. ⌜ r ≡ months book a (now (n .entry)) ⌝ }
+    ensures { λ r. ⌜ now (words .exit) ≡ monthWordsOf book a (now (n .entry)) (now (words .entry)) ⌝ }
+    ensures { λ r. ⌜ Valid (r .book) ⌝ }
 {
     let lent = a.lent;
     fill(words, lent, a.fill);
     let from = a.from;
     let to = a.to;
     let done = book.month(&n[from..to], &mut words[..lent]);
-    with(done.book, numbers(1, done.answer, 0, 0))
+    let after = done.book;
+    Played {
+        book: after,
+        answer: Answer::paid(done.answer, lent),
+    }
 }
 
-fn status(book: Book, a: Asked) -> Answered
+// What only reads the book leaves it as it is.
+pub fn status(book: Book, a: Asked) -> Answer
     requires { ⌜ Valid book ⌝ }
-    ensures { λ r. ⌜ (Valid (r .book)) × (InPlace (r .results) []) ⌝ }
+    ensures { λ r. ⌜ r ≡ shows book a ⌝ }
 {
     let shown = book.status(a.first);
     let parts = shown.parts;
-    let results = Results {
-        numbers: [
-            shown.answer,
-            shown.quantity,
-            parts.delivered,
-            parts.bought_in,
-            parts.compensated,
-            parts.cancelled,
-            parts.outstanding,
-        ],
-        count: 7,
-        cents: 0,
-        lines: 0,
-    };
-    with(shown.book, results)
+    Answer::seven([
+        shown.answer,
+        shown.quantity,
+        parts.delivered,
+        parts.bought_in,
+        parts.compensated,
+        parts.cancelled,
+        parts.outstanding,
+    ])
 }
 
-fn account(book: Book, a: Asked) -> Answered
+pub fn account(book: Book, a: Asked) -> Answer
     requires { ⌜ Valid book ⌝ }
-    ensures { λ r. ⌜ (Valid (r .book)) × (InPlace (r .results) []) ⌝ }
+    ensures { λ r. ⌜ r ≡ balances book a ⌝ }
 {
     let balance = book.account(a.first);
-    let results = Results {
-        numbers: [balance.answer, 0, 0, 0, 0, 0, 0],
-        count: 1,
-        cents: balance.cents,
-        lines: 0,
-    };
-    with(balance.book, results)
+    Answer::balance(balance.answer, balance.cents)
 }
 
-fn look(book: Book, a: Asked) -> Answered
+pub fn look(book: Book, a: Asked) -> Answer
     requires { ⌜ Valid book ⌝ }
-    ensures { λ r. ⌜ (Valid (r .book)) × (InPlace (r .results) []) ⌝ }
+    ensures { λ r. ⌜ LooksAs book a r ⌝ }
 {
     let looked = book.look(a.first);
-    with(looked.book, numbers(2, looked.answer, looked.obligation, 0))
-}
-
-// Nothing is called.
-fn nothing(book: Book) -> Answered
-    requires { ⌜ Valid book ⌝ }
-    ensures { λ r. ⌜ (Valid (r .book)) × (InPlace (r .results) []) ⌝ }
-{
-    with(book, numbers(0, 0, 0, 0))
+    Answer::numbers(2, looked.answer, looked.obligation, 0)
 }
 
 // Before the first line the book is the one that a refused Open returns.
-pub fn before_all() -> Answered
-    ensures { λ r. ⌜ (Valid (r .book)) × (InPlace (r .results) []) ⌝ }
+pub fn before_all() -> Played
+    ensures { λ r. ⌜ r ≡ atFirst ⌝ }
+    ensures { λ r. ⌜ Valid (r .book) ⌝ }
 {
     let none = [0u64; 0];
     let opened = Book::open(Day(0), &none, 2);
-    nothing(opened.book)
-}
-
-// The call that a line asks, on the book.
-pub fn call(book: Book, a: Asked, n: &[u64], words: &mut [u64]) -> Answered
-    requires { ⌜ (Valid book) × (Listed a (now n)) × (mostListed ≤ length (now words)) ⌝ }
-    ensures { λ r. ⌜ (Valid (r .book)) × (InPlace (r .results) (now (words .entry))) ⌝ }
-{
-    let line = a.line;
-    match line {
-        Line::Call(name, _) => match name {
-            Name::Open => open(a, n),
-            Name::Enter => enter(book, a),
-            Name::Withdraw => withdraw(book, a),
-            Name::Cancel => cancel(book, a),
-            Name::Deliver => deliver(book, a),
-            Name::Offer => offer(book, a),
-            Name::Close => close(book, a, words),
-            Name::Month => month(book, a, n, words),
-            Name::Status => status(book, a),
-            Name::Account => account(book, a),
-            Name::Look => look(book, a),
-        },
-        Line::Comment => nothing(book),
-        Line::NoCall => nothing(book),
+    let fresh = opened.book;
+    Played {
+        book: fresh,
+        answer: Answer::nothing(),
     }
 }

@@ -1,18 +1,21 @@
 // settle: plays a journal from standard input on one book and writes the answers to standard output. It holds one line
 // at a time, so its memory does not grow with the journal, and whenever its input is used up all answers are written.
+use answers::Answer;
+use reading::Line;
+use reading::Name;
 ghost use mathlib.Core.Path.{_≡_};
-ghost use Prim.Native.Nat.{_<_};
+ghost use Prim.Native.Nat.{_<_, _-_};
 ghost use lib.ListN.{length};
-ghost use Rattle.settle.specs.Room.{Buffers};
+ghost use Rattle.basics.specs.Choice.{pick};
+ghost use Rattle.settle.specs.Turns.{Buffers, Plays};
 
-mod answers;
 mod calls;
-mod lines;
+mod flow;
 
 // The turns that are left: none once the input is over.
 fn turns_left(turns: u64, over: bool) -> u64
     requires { ⌜ 0 < turns ⌝ }
-    ensures { λ r. ⌜ r < turns ⌝ }
+    ensures { λ r. ⌜ r ≡ pick over 0 (turns - 1) ⌝ }
 {
     if over {
         return 0;
@@ -21,7 +24,8 @@ fn turns_left(turns: u64, over: bool) -> u64
 }
 
 // A proved loop has to end, and nothing says that a journal does. So the loop counts its turns down, from a number that
-// no run uses up. A turn takes bytes of one line, and plays the line if it has ended.
+// no run uses up. A turn takes bytes of one line, and plays the line if it has ended. The calls stand here, each with
+// the book that it takes and hands back, so that the book is not copied once more on its way to them.
 fn settle_all(
     part: &mut [u8],
     line: &mut [u8],
@@ -30,20 +34,37 @@ fn settle_all(
     out: &mut [u8],
 )
     requires { ⌜ Buffers (now numbers) (now words) (now out) ⌝ }
+    ensures { λ _. ⌜ Plays (now (part .exit)) (now (line .exit)) (now (numbers .exit)) (now (words .exit)) (now (out .exit)) ⌝ }
 {
     let mut turns = u64::MAX;
-    let mut feed = lines::at_the_start();
-    let mut answered = calls::before_all();
+    let mut flow = flow::start();
+    let mut played = calls::before_all();
     while 0 < turns {
-        let fed = lines::feed_on(feed, part, out);
-        let taken = lines::take(fed, part, line);
+        let fed = flow::feed_on(flow, part, out);
+        let taken = flow::take(fed, part, line);
         let asked = calls::ask(taken, line, numbers);
-        answered = calls::call(answered.book, asked, numbers, words);
-        feed = taken.feed;
-        feed.end = answers::tell(asked, feed.lines, answered.results, words, out, feed.end);
+        let kind = asked.line;
+        match kind {
+            Line::Call(name, _) => match name {
+                Name::Open => played = calls::open(asked, numbers),
+                Name::Enter => played = calls::enter(played.book, asked),
+                Name::Withdraw => played = calls::withdraw(played.book, asked),
+                Name::Cancel => played = calls::cancel(played.book, asked),
+                Name::Deliver => played = calls::deliver(played.book, asked),
+                Name::Offer => played = calls::offer(played.book, asked),
+                Name::Close => played = calls::close(played.book, asked, words),
+                Name::Month => played = calls::month(played.book, asked, numbers, words),
+                Name::Status => played.answer = calls::status(played.book, asked),
+                Name::Account => played.answer = calls::account(played.book, asked),
+                Name::Look => played.answer = calls::look(played.book, asked),
+            },
+            Line::Comment => played.answer = Answer::nothing(),
+            Line::NoCall => played.answer = Answer::no_call(),
+        }
+        flow = flow::tell(fed, taken, played.answer, words, out);
         turns = turns_left(turns, taken.over);
     }
-    answers::write_out(out, feed.end);
+    flow::write_out(out, flow.end);
 }
 
 // Places for the bytes of a line: one more than a call's line may have, so that a longer line is seen to be longer.
@@ -67,11 +88,18 @@ fn word_places() -> [u64; 4096]
     [0; 4096]
 }
 
+// Places for the answers: the longest takes 90,212 bytes.
+fn answer_places() -> [u8; 131072]
+    ensures { λ r. ⌜ 131072 ≡ length r ⌝ }
+{
+    [0; 131072]
+}
+
 fn main() {
     let mut part = io::large_buffer();
     let mut line = line_places();
     let mut numbers = number_places();
     let mut words = word_places();
-    let mut out = io::large_buffer();
+    let mut out = answer_places();
     settle_all(&mut part, &mut line, &mut numbers, &mut words, &mut out);
 }

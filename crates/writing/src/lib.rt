@@ -69,7 +69,7 @@ pub fn write_spaced(out: &mut [u8], at: usize, n: u64) -> usize
 }
 
 // Numbers at a place, with a space in front of each.
-fn write_further(out: &mut [u8], at: usize, numbers: &[u64]) -> usize
+pub fn write_further(out: &mut [u8], at: usize, numbers: &[u64]) -> usize
     requires { ⌜ at + 21 * length (now numbers) ≤ length (now out) ⌝ }
     ensures { λ r. ⌜ Wrote (spaced (map digitsOf (now (numbers .entry)))) (now (out .entry)) at (now (out .exit)) r ⌝ }
 {

@@ -1,8 +1,10 @@
 -- `ask` meets its contract.
-use native.Mathlib.Omega.{arith}
-use mathlib.Core.Path.{sym}
 use lib.Seq.{length-take-le}
+use mathlib.Core.Path.{sym, _∙_}
+use native.Mathlib.Omega.{arith}
 use borrow.Author.Needs.{needs}
+use Rattle.settle.proofs.Asking.{nothing-listed, call-listed, noted-line, asked-line, asked-not}
+use Rattle.settle.specs.Asked.{askedOf}
 use Rattle.reading.proofs.Arguments.{call-arguments}
 use Rattle.settle.proofs.calls.ask.Statement.{statement}
 use Rattle.settle.proofs.calls.ask.Tie as tie
@@ -11,7 +13,8 @@ asks-nothing-requires : tie.Need-asks-nothing-requires
 asks-nothing-requires c κs = search needs
 
 returns : tie.Need-returns
-returns c = search needs
+returns c = let no = asked-not (c .before .before .before .before .args .taken) (c .before .before .before .before .args .line .now) (c .before .before .before .before .args .n .now) (c .before .if1 .left) in
+    (c .asks-nothing .ensures ∙ no .0, (no .1, rw (c .asks-nothing .ensures) (nothing-listed _ _)))
 
 slice-aggregate-read-line : tie.Need-slice-aggregate-read-line
 slice-aggregate-read-line c = sym (length-take-le _ _ (c .before .before .before .before .pre .0))
@@ -43,19 +46,41 @@ same-length : tie.Need-same-length
 same-length c = search needs
 
 returns-2 : tie.Need-returns-2
-returns-2 c = search needs
+unfolding askedOf
+returns-2 c = let s = c .before .before .before .before .before .before .before .before .before .before .before .before .before in let u = c .before .before .before .before .before .before .before .read-line .ensures in let after = c .before .before .before .before .before .before .before .read-line .last .1 .0 in let told = c .before .before .before .name .given .1 in
+    let a = call-arguments _ _ _ _ _ (s .pre .1) told u in (
+      c .asks-call .ensures ∙ asked-line (s .args .taken) (s .args .line .now) (s .args .n .now) after _ told (c .before .before .before .before .before .before .before .before .before .before .if1 .taken) u,
+      (
+        noted-line (s .args .taken) (s .args .line .now) (s .args .n .now) (c .before .before .before .before .before .before .before .before .before .before .if1 .taken) u,
+        rw (c .asks-call .ensures) (call-listed _ _ _ (a .2) (a .1)),
+      ),
+    )
 
 same-length-2 : tie.Need-same-length-2
 same-length-2 c = search needs
 
 returns-3 : tie.Need-returns-3
-returns-3 c = search needs
+unfolding askedOf
+returns-3 c = let s = c .before .before .before .before .before .before .before .before .before .before .before in let u = c .before .before .before .before .before .read-line .ensures in let after = c .before .before .before .before .before .read-line .last .1 .0 in let told = c .before .enum-told .given .1 in (
+  c .asks-nothing2 .ensures ∙ asked-line (s .args .taken) (s .args .line .now) (s .args .n .now) after _ told (c .before .before .before .before .before .before .before .before .if1 .taken) u,
+  (
+    noted-line (s .args .taken) (s .args .line .now) (s .args .n .now) (c .before .before .before .before .before .before .before .before .if1 .taken) u,
+    rw (c .asks-nothing2 .ensures) (nothing-listed _ _),
+  ),
+)
 
 same-length-3 : tie.Need-same-length-3
 same-length-3 c = search needs
 
 returns-4 : tie.Need-returns-4
-returns-4 c = search needs
+unfolding askedOf
+returns-4 c = let s = c .before .before .before .before .before .before .before .before .before .before .before in let u = c .before .before .before .before .before .read-line .ensures in let after = c .before .before .before .before .before .read-line .last .1 .0 in let told = c .before .enum-told2 .given .1 in (
+  c .asks-nothing3 .ensures ∙ asked-line (s .args .taken) (s .args .line .now) (s .args .n .now) after _ told (c .before .before .before .before .before .before .before .before .if1 .taken) u,
+  (
+    noted-line (s .args .taken) (s .args .line .now) (s .args .n .now) (c .before .before .before .before .before .before .before .before .if1 .taken) u,
+    rw (c .asks-nothing3 .ensures) (nothing-listed _ _),
+  ),
+)
 
 pub ask-spec : {M : Type 1} → statement M
 ask-spec =

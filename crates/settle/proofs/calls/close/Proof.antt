@@ -1,11 +1,11 @@
 -- `close` meets its contract.
-use native.Mathlib.Omega.{arith}
-use mathlib.Core.Path.{sym, ap}
-use lib.Seq.{length-take-le}
-use lib.ListN.{take, length-take}
+use mathlib.Core.List.{_++_}
+use mathlib.Core.Path.{sym, ap, ap₂, _∙_}
 use borrow.Author.Needs.{needs}
-use Rattle.book.proofs.Ended.{close-fits}
-use Rattle.book.specs.declared.Closed.{Closed}
+use Rattle.settle.proofs.Lending.{filled-front, filled-rest, filled-length}
+use Rattle.settle.specs.Calls.{played, afterClose}
+use Rattle.book.specs.Closing.{close, closeWords}
+use Rattle.answers.specs.declared.Answer.{Answer}
 use Rattle.settle.proofs.calls.close.Statement.{statement}
 use Rattle.settle.proofs.calls.close.Tie as tie
 
@@ -16,23 +16,27 @@ slice-relend-prefix-close : tie.Need-slice-relend-prefix-close
 slice-relend-prefix-close c = search needs
 
 slice-aggregate-close : tie.Need-slice-aggregate-close
-slice-aggregate-close c = sym (length-take-le _ _ (omega (arith, c .before .before .before .before .before .before .pre .1, c .before .before .before .fill .kept .0)))
+slice-aggregate-close c = let s = c .before .before .before .before .before .before in sym (filled-length (s .args .a .lent) (s .args .a .fill) (s .args .words .now) _ (c .before .before .before .fill .ensures))
 
 close-requires : tie.Need-close-requires
 close-requires c κs = search needs
 
-with-requires : tie.Need-with-requires
-with-requires c κs = search needs
+closed-requires : tie.Need-closed-requires
+closed-requires c κs = search needs
 
 same-length : tie.Need-same-length
 same-length c = search needs
 
 returns : tie.Need-returns
-returns c = let s = c .before .before .before .before .before .before .before .before .before .before in
-    let fits = close-fits (s .args .book) (s .args .a .first) (s .args .a .second) (take (s .args .a .lent) (c .before .before .before .before .before .before .before .fill .last .0)) (s .pre .0) in
-    let same = ap (λ (r : Closed). r .count) (c .before .before .before .close .ensures .0) in
-    let w = c .with .ensures .1 in
-    (c .with .ensures .0, record { few = omega (arith, w .0); lines = omega (arith, w .1, s .pre .1, length-take (s .args .a .lent) (c .before .before .before .before .before .before .before .fill .last .0)) })
+returns c = let s = c .before .before .before .before .before .before .before .before .before .before .before in let a = s .args .a in let done = c .before .before .before .before .close in let f = c .before .before .before .before .before .before .before .before .fill .ensures in
+    let front = filled-front (a .lent) (a .fill) (s .args .words .now) _ f in (
+      ap (λ (x : Answer). played (done .result .book) x) (c .closed .ensures)
+          ∙ ap (afterClose a) (done .ensures .0 ∙ ap (close (s .args .book) (a .first) (a .second)) (filled-length (a .lent) (a .fill) (s .args .words .now) _ f)),
+      (
+        ap₂ _++_ (done .ensures .1 .0 ∙ ap (closeWords (s .args .book) (a .first) (a .second)) front) (filled-rest (a .lent) (a .fill) (s .args .words .now) _ f),
+        done .ensures .1 .1,
+      ),
+    )
 
 pub close-spec : {M : Type 1} → statement M
 close-spec =
@@ -42,6 +46,6 @@ close-spec =
     slice-relend-prefix-close
     slice-aggregate-close
     close-requires
-    with-requires
+    closed-requires
     same-length
     returns)

@@ -1,8 +1,11 @@
 -- `month` meets its contract.
-use native.Mathlib.Omega.{arith}
-use mathlib.Core.Path.{sym}
-use lib.Seq.{length-take-le}
+use mathlib.Core.List.{_++_}
+use mathlib.Core.Path.{sym, ap, ap₂, _∙_}
 use borrow.Author.Needs.{needs}
+use Rattle.settle.proofs.Lending.{filled-front, filled-rest, filled-length}
+use Rattle.settle.specs.Calls.{played, listIn, afterMonth}
+use Rattle.book.specs.Month.{month, monthWords}
+use Rattle.answers.specs.declared.Answer.{Answer}
 use Rattle.settle.proofs.calls.month.Statement.{statement}
 use Rattle.settle.proofs.calls.month.Tie as tie
 
@@ -25,22 +28,28 @@ slice-relend-prefix-month : tie.Need-slice-relend-prefix-month
 slice-relend-prefix-month c = search needs
 
 slice-aggregate-month : tie.Need-slice-aggregate-month
-slice-aggregate-month c = sym (length-take-le _ _ (omega (arith, c .before .before .before .before .before .before .before .before .pre .2, c .before .before .before .before .fill .kept .0)))
+slice-aggregate-month c = let s = c .before .before .before .before .before .before .before .before in sym (filled-length (s .args .a .lent) (s .args .a .fill) (s .args .words .now) _ (c .before .before .before .before .fill .ensures))
 
 month-requires : tie.Need-month-requires
 month-requires c κs = search needs
 
-numbers-requires : tie.Need-numbers-requires
-numbers-requires c κs = search needs
-
-with-requires : tie.Need-with-requires
-with-requires c κs = search needs
+paid-requires : tie.Need-paid-requires
+paid-requires c κs = search needs
 
 same-length : tie.Need-same-length
 same-length c = search needs
 
 returns : tie.Need-returns
-returns c = search needs
+returns c = let s = c .before .before .before .before .before .before .before .before .before .before .before .before .before in let a = s .args .a in let done = c .before .before .before .before .month in let f = c .before .before .before .before .before .before .before .before .before .fill .ensures in
+    let front = filled-front (a .lent) (a .fill) (s .args .words .now) _ f in
+    let given = listIn a (s .args .n .now) in (
+      ap (λ (x : Answer). played (done .result .book) x) (c .paid .ensures)
+          ∙ ap (afterMonth a) (done .ensures .0 ∙ ap (month (s .args .book) given) (filled-length (a .lent) (a .fill) (s .args .words .now) _ f)),
+      (
+        ap₂ _++_ (done .ensures .1 .0 ∙ ap (monthWords (s .args .book) given) front) (filled-rest (a .lent) (a .fill) (s .args .words .now) _ f),
+        done .ensures .1 .1,
+      ),
+    )
 
 pub month-spec : {M : Type 1} → statement M
 month-spec =
@@ -54,7 +63,6 @@ month-spec =
     slice-relend-prefix-month
     slice-aggregate-month
     month-requires
-    numbers-requires
-    with-requires
+    paid-requires
     same-length
     returns)

@@ -1,0 +1,82 @@
+-- How long the parts of an answer are.
+use Prim.Native.Nat.{ℕ, zero, suc, _+_, _*_, _≤_}
+use native.Mathlib.Numerals.{add-one}
+use native.Mathlib.Omega.{arith}
+use mathlib.Core.Path.{_≡_}
+use mathlib.Core.List.{List, [], _∷_, _++_}
+use lib.IntN.{ℤ, pos, negsuc}
+use lib.ListN.{length, getD, take, drop, length-append, length-take}
+use Rattle.writing.specs.Digits.{digitsOf, signedOf}
+use Rattle.writing.specs.Answers.{lineFeed, textOf, answerOf, noCallOf}
+use Rattle.writing.proofs.Digits.{digits-most}
+use Rattle.writing.proofs.Writing.{text-most, spaced-most}
+use Rattle.answers.specs.Text.{numbersText, balanceText, sixText, linesText, keptText, paidText}
+use Rattle.answers.specs.declared.Answer.{Answer}
+
+-- a number with its sign
+pub signed-most : (z : ℤ) → length (signedOf z) ≤ 21
+unfolding signedOf
+signed-most (pos n) = omega (arith, digits-most n)
+signed-most (negsuc n) = omega (arith, digits-most (suc n))
+
+-- numbers and a line feed
+line-most : (ns : List ℕ) → length (answerOf ns) ≤ 21 * length ns + 1
+unfolding answerOf
+line-most ns = omega (arith, length-append (textOf ns) (lineFeed ∷ []), text-most ns)
+
+-- the answer to a line that is no call
+pub no-call-most : (line : ℕ) → length (noCallOf line) ≤ 28
+unfolding noCallOf
+no-call-most line = omega (arith, length-append (digitsOf line) (lineFeed ∷ []), digits-most line)
+
+-- up to seven numbers
+pub numbers-most : (a : Answer) → a .count ≤ 7 → length (numbersText a) ≤ 148
+unfolding numbersText
+numbers-most a h =
+    omega (arith, line-most (take (a .count) (a .numbers)), length-take (a .count) (a .numbers))
+
+-- an answer number and signed cents
+pub balance-most : (a : Answer) → length (balanceText a) ≤ 43
+unfolding balanceText
+balance-most a =
+    simp length-append (omega (arith, digits-most (getD (a .numbers) 0 0), signed-most (a .cents)))
+
+-- a line of a Close
+pub six-most : (ws : List ℕ) → length (sixText (take 6 ws)) ≤ 129
+unfolding sixText
+six-most ws = omega (arith, line-most (take 6 ws), length-take 6 ws)
+
+-- the first lines of a Close, and one more
+pub lines-more : (words : List ℕ) (k : ℕ)
+    → linesText words (k + 1) ≡ linesText words k ++ sixText (take 6 (drop (6 * k) words))
+unfolding linesText
+lines-more words k = rw add-one
+
+-- lines of a Close
+pub lines-most : (words : List ℕ) (k : ℕ) → length (linesText words k) ≤ 129 * k
+unfolding linesText
+lines-most words zero = omega arith
+lines-most words (suc k) =
+    omega (
+      arith,
+      length-append (linesText words k) (sixText (take 6 (drop (6 * k) words))),
+      lines-most words k,
+      six-most (drop (6 * k) words),
+    )
+
+-- how many words are kept
+pub kept-most : (n : ℕ) → length (keptText n) ≤ 28
+unfolding keptText
+kept-most n = omega (arith, length-append (digitsOf n) (lineFeed ∷ []), digits-most n)
+
+-- the answer of a Month: at most 21 bytes for each place, and 21
+pub paid-most : (a : Answer) (words : List ℕ) → length (paidText a words) ≤ 21 * a .lent + 21
+unfolding paidText
+paid-most a words =
+    simp length-append
+    (omega (
+      arith,
+      digits-most (getD (a .numbers) 0 0),
+      spaced-most (take (a .lent) words),
+      length-take (a .lent) words,
+    ))

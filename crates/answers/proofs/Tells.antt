@@ -1,0 +1,130 @@
+-- Which answers can be written, and in how much room.
+use Prim.Native.Nat.{ℕ, _*_, _≤_}
+use native.Mathlib.Omega.{arith}
+use mathlib.Core.Path.{_≡_, refl, sym, subst}
+use mathlib.Core.List.{List}
+use lib.IntN.{ℤ}
+use lib.ListN.{length, take, drop, length-append}
+use Rattle.writing.specs.Answers.{Wrote}
+use Rattle.answers.specs.Text.{mostLent, mostAnswer, Tellable, answerText, textIn}
+use Rattle.answers.specs.Text.{keptOf, closedText}
+use Rattle.answers.specs.Told.{nothing, noCall, numbersTold, statusTold, balanceTold, closedTold, paidTold}
+use Rattle.answers.specs.declared.Form.{Form}
+use Rattle.answers.specs.declared.Form.the-variants.{Nothing, NoCall, Numbers, Balance, Closed, Paid}
+use Rattle.answers.specs.declared.Answer.{Answer}
+use Rattle.answers.proofs.Lengths.{no-call-most, numbers-most, balance-most, lines-most, kept-most, paid-most}
+
+-- a comment's
+pub nothing-tells : (words : List ℕ) → Tellable nothing words
+unfolding nothing
+nothing-tells words = record {
+  few = omega arith;
+  whole = refl;
+  lends = omega arith;
+  within = omega arith;
+  lines = omega arith;
+}
+
+-- that of a line that is no call
+pub no-call-tells : (words : List ℕ) → Tellable noCall words
+unfolding noCall
+no-call-tells words = record {
+  few = omega arith;
+  whole = refl;
+  lends = omega arith;
+  within = omega arith;
+  lines = omega arith;
+}
+
+-- an answer number and results
+pub numbers-tells : (count answer second third : ℕ) (words : List ℕ) → count ≤ 7
+    → Tellable (numbersTold count answer second third) words
+unfolding numbersTold
+numbers-tells count answer second third words h = record {
+  few = h;
+  whole = refl;
+  lends = omega arith;
+  within = omega arith;
+  lines = omega arith;
+}
+
+-- seven numbers
+pub status-tells : (seven words : List ℕ) → length seven ≡ 7 → Tellable (statusTold seven) words
+unfolding statusTold
+status-tells seven words h = record {
+  few = omega arith;
+  whole = h;
+  lends = omega arith;
+  within = omega arith;
+  lines = omega arith;
+}
+
+-- an answer number and signed cents
+pub balance-tells : (answer : ℕ) (cents : ℤ) (words : List ℕ) → Tellable (balanceTold answer cents) words
+unfolding balanceTold
+balance-tells answer cents words = record {
+  few = omega arith;
+  whole = refl;
+  lends = omega arith;
+  within = omega arith;
+  lines = omega arith;
+}
+
+-- that of a Close, with the lines in words that were lent
+pub closed-tells : (answer lines lent fill : ℕ) (words : List ℕ)
+    → lent ≤ mostLent → lent ≤ length words → 6 * lines ≤ lent → Tellable (closedTold answer lines lent fill) words
+unfolding closedTold
+closed-tells answer lines lent fill words m w l = record {
+  few = omega arith;
+  whole = refl;
+  lends = m;
+  within = w;
+  lines = l;
+}
+
+-- that of a Month, with places in words that were lent
+pub paid-tells : (answer lent : ℕ) (words : List ℕ) → lent ≤ mostLent → lent ≤ length words
+    → Tellable (paidTold answer lent) words
+unfolding paidTold
+paid-tells answer lent words m w = record {
+  few = omega arith;
+  whole = refl;
+  lends = m;
+  within = w;
+  lines = omega arith;
+}
+
+module _ (a : Answer) (line : ℕ) (words : List ℕ) (t : Tellable a words) where
+  -- the answer of a Close
+  closed-most : length (closedText a words) ≤ mostAnswer
+  unfolding closedText
+  closed-most =
+      simp length-append
+      (omega (
+        arith,
+        numbers-most a (t .few),
+        lines-most words (a .lines),
+        kept-most (keptOf (a .fill) (drop (6 * a .lines) (take (a .lent) words))),
+      ))
+
+  -- an answer in each form
+  text-most : (f : Form) → length (textIn f a line words) ≤ mostAnswer
+  unfolding textIn
+  text-most Nothing = omega arith
+  text-most NoCall = omega (arith, no-call-most line)
+  text-most Numbers = omega (arith, numbers-most a (t .few))
+  text-most Balance = omega (arith, balance-most a)
+  text-most Closed = closed-most
+  text-most Paid = omega (arith, paid-most a words)
+
+  -- what is written of an answer fits its room
+  pub answer-most : length (answerText a line words) ≤ mostAnswer
+  unfolding answerText
+  answer-most = text-most (a .form)
+
+-- an answer is written as its form says
+pub wrote-in : (a : Answer) (f : Form) (line : ℕ) (words : List ℕ) {out after : List ℕ} {at next : ℕ} → a .form ≡ f
+    → Wrote (textIn f a line words) out at after next → Wrote (answerText a line words) out at after next
+unfolding answerText
+wrote-in a f line words {out} {after} {at} {next} e w =
+    subst (λ (g : Form). Wrote (textIn g a line words) out at after next) (sym e) w

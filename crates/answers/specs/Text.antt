@@ -1,0 +1,80 @@
+-- What is written of an answer.
+use Prim.Native.Nat.{ℕ, zero, suc, _+_, _*_, _≤_}
+use mathlib.Core.Path.{_≡_}
+use mathlib.Core.List.{List, [], _∷_, _++_, map}
+use lib.Dec.{eqb}
+use lib.ListN.{length, getD, take, drop}
+use Rattle.basics.specs.Choice.{pick}
+use Rattle.writing.specs.Digits.{digitsOf, signedOf}
+use Rattle.writing.specs.Words.{space, spaced}
+use Rattle.writing.specs.Answers.{lineFeed, answerOf, noCallOf}
+use Rattle.answers.specs.declared.Form.{Form}
+use Rattle.answers.specs.declared.Form.the-variants.{Nothing, NoCall, Numbers, Balance, Closed, Paid}
+use Rattle.answers.specs.declared.Answer.{Answer}
+
+-- the most words that are lent to a call: 4,096
+abbrev pub mostLent : ℕ
+mostLent = 4_096
+
+-- the most bytes of an answer: 22 for each word that is lent, and 100
+abbrev pub mostAnswer : ℕ
+mostAnswer = 22 * mostLent + 100
+
+-- an answer that can be written: it has at most seven numbers, and its lines are within the words that were lent
+pub record Tellable (a : Answer) (words : List ℕ) : Type 0 where
+  pub few : a .count ≤ 7
+  pub whole : length (a .numbers) ≡ 7
+  pub lends : a .lent ≤ mostLent
+  pub within : a .lent ≤ length words
+  pub lines : 6 * a .lines ≤ a .lent
+
+-- the first few numbers, and a line feed
+unfoldable pub numbersText : Answer → List ℕ
+numbersText a = answerOf (take (a .count) (a .numbers))
+
+-- the answer number, and signed cents
+unfoldable pub balanceText : Answer → List ℕ
+balanceText a = digitsOf (getD (a .numbers) 0 0) ++ space ∷ signedOf (a .cents) ++ lineFeed ∷ []
+
+-- a line of a Close: two spaces and six words
+unfoldable pub sixText : List ℕ → List ℕ
+sixText six = space ∷ space ∷ answerOf six
+
+-- the first so many lines of a Close
+unfoldable pub linesText : List ℕ → ℕ → List ℕ
+linesText words zero = []
+linesText words (suc k) = linesText words k ++ sixText (take 6 (drop (6 * k) words))
+
+-- how many words have the value that they were filled with
+unfoldable pub keptOf : ℕ → List ℕ → ℕ
+keptOf fill [] = 0
+keptOf fill (w ∷ ws) = pick (eqb w fill) 1 0 + keptOf fill ws
+
+-- how many words are kept: two spaces, kept, and the number
+unfoldable pub keptText : ℕ → List ℕ
+keptText n = space ∷ space ∷ 107 ∷ 101 ∷ 112 ∷ 116 ∷ space ∷ digitsOf n ++ lineFeed ∷ []
+
+-- the answer of a Close: answer number and number of lines, the lines, and how many words behind them are kept
+unfoldable pub closedText : Answer → List ℕ → List ℕ
+closedText a words =
+    numbersText a
+    ++ linesText words (a .lines)
+    ++ keptText (keptOf (a .fill) (drop (6 * a .lines) (take (a .lent) words)))
+
+-- the answer of a Month: the answer number, and on the same line the places for payouts
+unfoldable pub paidText : Answer → List ℕ → List ℕ
+paidText a words =
+    digitsOf (getD (a .numbers) 0 0) ++ spaced (map digitsOf (take (a .lent) words)) ++ lineFeed ∷ []
+
+-- what is written of an answer in each form
+unfoldable pub textIn : Form → Answer → ℕ → List ℕ → List ℕ
+textIn Nothing a line words = []
+textIn NoCall a line words = noCallOf line
+textIn Numbers a line words = numbersText a
+textIn Balance a line words = balanceText a
+textIn Closed a line words = closedText a words
+textIn Paid a line words = paidText a words
+
+-- what is written of an answer to the line with a number
+unfoldable pub answerText : Answer → ℕ → List ℕ → List ℕ
+answerText a line words = textIn (a .form) a line words

@@ -1,0 +1,258 @@
+// The answers of a journal's calls as text.
+ghost use Prim.Native.Nat.{_+_, _*_, _≤_};
+ghost use mathlib.Core.Path.{_≡_};
+ghost use lib.ListN.{length, take, drop};
+ghost use Rattle.writing.specs.Answers.{Wrote};
+ghost use Rattle.answers.specs.Told.{nothing, noCall, numbersTold, statusTold, balanceTold, closedTold, paidTold};
+ghost use Rattle.answers.specs.Text.{mostAnswer, Tellable, numbersText, balanceText, sixText, linesText, keptOf};
+ghost use Rattle.answers.specs.Text.{keptText, closedText, paidText, answerText};
+
+// What the answer to a line looks like.
+pub enum Form {
+    // A comment has no answer.
+    Nothing,
+    // The line is no call.
+    NoCall,
+    // An answer number and results.
+    Numbers,
+    // An answer number and signed cents.
+    Balance,
+    // An answer number, how many lines there are, the lines, and how many words are kept.
+    Closed,
+    // An answer number and the places for payouts.
+    Paid,
+}
+
+// The answer to a line: its form; numbers, of which the first few are shown; signed cents; how many lines of six words
+// stand in the words that were lent, how many were lent, and what they were filled with.
+pub struct Answer {
+    pub form: Form,
+    pub numbers: [u64; 7],
+    pub count: usize,
+    pub cents: i64,
+    pub lines: usize,
+    pub lent: usize,
+    pub fill: u64,
+}
+
+impl Answer {
+    // Nothing is answered.
+    pub fn nothing() -> Answer
+        ensures { λ r. ⌜ r ≡ nothing ⌝ }
+    {
+        Answer {
+            form: Form::Nothing,
+            numbers: [0; 7],
+            count: 0,
+            cents: 0,
+            lines: 0,
+            lent: 0,
+            fill: 0,
+        }
+    }
+
+    // The line is no call.
+    pub fn no_call() -> Answer
+        ensures { λ r. ⌜ r ≡ noCall ⌝ }
+    {
+        Answer {
+            form: Form::NoCall,
+            numbers: [0; 7],
+            count: 0,
+            cents: 0,
+            lines: 0,
+            lent: 0,
+            fill: 0,
+        }
+    }
+
+    // An answer number and up to two results: the first count of these.
+    pub fn numbers(count: usize, answer: u64, second: u64, third: u64) -> Answer
+        ensures { λ r. ⌜ r ≡ numbersTold count answer second third ⌝ }
+    {
+        Answer {
+            form: Form::Numbers,
+            numbers: [answer, second, third, 0, 0, 0, 0],
+            count: count,
+            cents: 0,
+            lines: 0,
+            lent: 0,
+            fill: 0,
+        }
+    }
+
+    // An answer number and six results.
+    pub fn seven(numbers: [u64; 7]) -> Answer
+        ensures { λ r. ⌜ r ≡ statusTold numbers ⌝ }
+    {
+        Answer {
+            form: Form::Numbers,
+            numbers: numbers,
+            count: 7,
+            cents: 0,
+            lines: 0,
+            lent: 0,
+            fill: 0,
+        }
+    }
+
+    // An answer number and signed cents.
+    pub fn balance(answer: u64, cents: i64) -> Answer
+        ensures { λ r. ⌜ r ≡ balanceTold answer cents ⌝ }
+    {
+        Answer {
+            form: Form::Balance,
+            numbers: [answer, 0, 0, 0, 0, 0, 0],
+            count: 1,
+            cents: cents,
+            lines: 0,
+            lent: 0,
+            fill: 0,
+        }
+    }
+
+    // An answer number and lines, in so many words that were filled.
+    pub fn closed(answer: u64, lines: usize, lent: usize, fill: u64) -> Answer
+        ensures { λ r. ⌜ r ≡ closedTold answer lines lent fill ⌝ }
+    {
+        Answer {
+            form: Form::Closed,
+            numbers: [answer, lines as u64, 0, 0, 0, 0, 0],
+            count: 2,
+            cents: 0,
+            lines: lines,
+            lent: lent,
+            fill: fill,
+        }
+    }
+
+    // An answer number and so many places for payouts.
+    pub fn paid(answer: u64, lent: usize) -> Answer
+        ensures { λ r. ⌜ r ≡ paidTold answer lent ⌝ }
+    {
+        Answer {
+            form: Form::Paid,
+            numbers: [answer, 0, 0, 0, 0, 0, 0],
+            count: 1,
+            cents: 0,
+            lines: 0,
+            lent: lent,
+            fill: 0,
+        }
+    }
+
+    // The numbers of an answer, and a line feed.
+    fn tell_numbers(self, out: &mut [u8], at: usize) -> usize
+        requires { ⌜ (self .count ≤ 7) × (at + 148 ≤ length (now out)) ⌝ }
+        ensures { λ r. ⌜ Wrote (numbersText self) (now (out .entry)) at (now (out .exit)) r ⌝ }
+    {
+        let numbers = self.numbers;
+        let count = self.count;
+        writing::write_answer(out, at, &numbers[..count])
+    }
+
+    // An answer number and signed cents.
+    fn tell_balance(self, out: &mut [u8], at: usize) -> usize
+        requires { ⌜ at + 43 ≤ length (now out) ⌝ }
+        ensures { λ r. ⌜ Wrote (balanceText self) (now (out .entry)) at (now (out .exit)) r ⌝ }
+    {
+        let numbers = self.numbers;
+        let number = writing::write_number(out, at, numbers[0]);
+        out[number] = b' ';
+        let end = writing::write_signed(out, number + 1, self.cents);
+        out[end] = b'\n';
+        end + 1
+    }
+
+    // The answer of a Close: its numbers, its lines, and how many words are kept.
+    fn tell_closed(self, words: &[u64], out: &mut [u8], at: usize) -> usize
+        requires { ⌜ (Tellable self (now words)) × (at + mostAnswer ≤ length (now out)) ⌝ }
+        ensures { λ r. ⌜ Wrote (closedText self (now (words .entry))) (now (out .entry)) at (now (out .exit)) r ⌝ }
+    {
+        let lines = self.lines;
+        let lent = self.lent;
+        let head = self.tell_numbers(out, at);
+        let end = tell_lines(words, lines, out, head);
+        tell_kept(kept_of(words, 6 * lines, lent, self.fill), out, end)
+    }
+
+    // The answer of a Month: its number, and on the same line the places for payouts as they are left.
+    fn tell_paid(self, words: &[u64], out: &mut [u8], at: usize) -> usize
+        requires { ⌜ (Tellable self (now words)) × (at + mostAnswer ≤ length (now out)) ⌝ }
+        ensures { λ r. ⌜ Wrote (paidText self (now (words .entry))) (now (out .entry)) at (now (out .exit)) r ⌝ }
+    {
+        let numbers = self.numbers;
+        let lent = self.lent;
+        let number = writing::write_number(out, at, numbers[0]);
+        let end = writing::write_further(out, number, &words[..lent]);
+        out[end] = b'\n';
+        end + 1
+    }
+
+    // The answer to the line with a number, at a place of the output.
+    pub fn tell(self, line: u64, words: &[u64], out: &mut [u8], at: usize) -> usize
+        requires { ⌜ (Tellable self (now words)) × (at + mostAnswer ≤ length (now out)) ⌝ }
+        ensures { λ r. ⌜ Wrote (answerText self line (now (words .entry))) (now (out .entry)) at (now (out .exit)) r ⌝ }
+    {
+        let form = self.form;
+        match form {
+            Form::Nothing => at,
+            Form::NoCall => writing::write_no_call(out, at, line),
+            Form::Numbers => self.tell_numbers(out, at),
+            Form::Balance => self.tell_balance(out, at),
+            Form::Closed => self.tell_closed(words, out, at),
+            Form::Paid => self.tell_paid(words, out, at),
+        }
+    }
+}
+
+// A line of a Close: six words, with two spaces in front.
+fn tell_six(words: &[u64], from: usize, out: &mut [u8], at: usize) -> usize
+    requires { ⌜ (from + 6 ≤ length (now words)) × (at + 129 ≤ length (now out)) ⌝ }
+    ensures { λ r. ⌜ Wrote (sixText (take 6 (drop from (now (words .entry))))) (now (out .entry)) at (now (out .exit)) r ⌝ }
+{
+    out[at] = b' ';
+    out[at + 1] = b' ';
+    writing::write_answer(out, at + 2, &words[from..from + 6])
+}
+
+// The lines of a Close.
+fn tell_lines(words: &[u64], count: usize, out: &mut [u8], at: usize) -> usize
+    requires { ⌜ (6 * count ≤ length (now words)) × (at + 129 * count ≤ length (now out)) ⌝ }
+    ensures { λ r. ⌜ Wrote (linesText (now (words .entry)) count) (now (out .entry)) at (now (out .exit)) r ⌝ }
+{
+    let mut end = at;
+    let mut k = 0;
+    while k < count {
+        end = tell_six(words, 6 * k, out, end);
+        k += 1;
+    }
+    end
+}
+
+// How many words from one place up to another still have the value that they were filled with.
+fn kept_of(words: &[u64], from: usize, to: usize, fill: u64) -> u64
+    requires { ⌜ (from ≤ to) × (to ≤ length (now words)) ⌝ }
+    ensures { λ r. ⌜ r ≡ keptOf fill (drop from (take to (now (words .entry)))) ⌝ }
+{
+    let mut kept: u64 = 0;
+    let mut i = from;
+    while i < to {
+        if words[i] == fill {
+            kept += 1;
+        }
+        i += 1;
+    }
+    kept
+}
+
+// How many words are kept, behind the lines.
+fn tell_kept(kept: u64, out: &mut [u8], at: usize) -> usize
+    requires { ⌜ at + 28 ≤ length (now out) ⌝ }
+    ensures { λ r. ⌜ Wrote (keptText kept) (now (out .entry)) at (now (out .exit)) r ⌝ }
+{
+    let next = writing::write_bytes(out, at, b"  kept ");
+    let end = writing::write_number(out, next, kept);
+    out[end] = b'\n';
+    end + 1
+}

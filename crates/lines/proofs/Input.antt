@@ -1,0 +1,140 @@
+-- The bytes of a line that are read and held, and what is taken of the input.
+use Prim.Native.Nat.{ℕ, zero, suc, _+_, _-_, _≤_, _<_, min}
+use native.Mathlib.Omega.{arith}
+use native.Mathlib.Numerals.{add-one}
+use mathlib.Core.Path.{_≡_, refl, sym, ap, _∙_}
+use mathlib.Core.Bool.{true, false}
+use mathlib.Core.List.{List, [], _∷_}
+use lib.Dec.{eqb}
+use lib.ListN.{length, getD, set, take, drop, length-set, length-take, length-drop}
+use lib.Seq.{sets, drop-cons, take-take, length-take-le}
+use borrow.Author.Tests.{eq-eqb, ne-eqb, leb-true, leb-false, lt-ltb, le-ltb}
+use Rattle.basics.proofs.Cases.{pick-case}
+use Rattle.basics.proofs.Stores.{sets-past}
+use Rattle.writing.specs.Answers.{Wrote, lineFeed}
+use Rattle.lines.specs.Input.{usedUp, between, upToLineFeed, ahead, lastOf, endedAt, goesOn, heldWith, takenOf}
+use Rattle.lines.specs.declared.Feed.{Feed}
+
+-- nothing lies from a place up to one that is not behind it
+between-none : (part : List ℕ) (at to : ℕ) → to ≤ at → between at to part ≡ []
+between-none part at to h = let e : to - at ≡ 0 = omega arith in rw e
+
+-- the first element from a place up to one behind it, and the others
+between-more : (part : List ℕ) (at to : ℕ) → at < to → to ≤ length part
+    → between at to part ≡ getD part at 0 ∷ between (at + 1) to part
+between-more part at to h l =
+    let e : to - at ≡ suc (to - suc at) = omega arith in
+    let b : at < length part = omega arith in
+    rw (e, add-one at, drop-cons part at 0 b)
+
+-- a line ends at the end of what was read
+pub line-past : (part : List ℕ) (at to : ℕ) → to ≤ at → upToLineFeed (between at to part) ≡ []
+unfolding upToLineFeed
+line-past part at to h = rw (between-none part at to h)
+
+-- a line ends at a line feed
+pub line-ends : (part : List ℕ) (at to : ℕ) → at < to → to ≤ length part → getD part at 0 ≡ lineFeed
+    → upToLineFeed (between at to part) ≡ []
+unfolding upToLineFeed
+line-ends part at to h l e = rw (between-more part at to h l, eq-eqb (getD part at 0) lineFeed e)
+
+-- any other byte belongs to the line
+pub line-goes-on : (part : List ℕ) (at to : ℕ) → at < to → to ≤ length part → (getD part at 0 ≡ lineFeed → ⊥)
+    → upToLineFeed (between at to part) ≡ getD part at 0 ∷ upToLineFeed (between (at + 1) to part)
+unfolding upToLineFeed
+line-goes-on part at to h l e = rw (between-more part at to h l, ne-eqb (getD part at 0) lineFeed e)
+
+-- a line has no more bytes than it is taken from
+up-most : (bs : List ℕ) → length (upToLineFeed bs) ≤ length bs
+unfolding upToLineFeed
+up-most [] = omega arith
+up-most (b ∷ bs) =
+    pick-case (λ (l : List ℕ). length l ≤ suc (length bs)) (eqb b lineFeed) [] (b ∷ upToLineFeed bs)
+    (λ e. omega arith)
+    (λ e. omega (arith, up-most bs))
+
+-- the bytes up to the first line feed are the front of the bytes
+up-taken : (bs : List ℕ) → take (length (upToLineFeed bs)) bs ≡ upToLineFeed bs
+unfolding upToLineFeed
+up-taken [] = refl
+up-taken (b ∷ bs) =
+    pick-case (λ (l : List ℕ). take (length l) (b ∷ bs) ≡ l) (eqb b lineFeed) [] (b ∷ upToLineFeed bs)
+    (λ e. refl)
+    (λ e. ap (λ (l : List ℕ). b ∷ l) (up-taken bs))
+
+-- what has no place in a list is not stored in it
+sets-cut : (l : List ℕ) (i n : ℕ) (vs : List ℕ) → length l ≤ i + n → sets l i (take n vs) ≡ sets l i vs
+sets-cut l i zero vs h = sym (sets-past l i vs (omega arith))
+sets-cut l i (suc n) [] h = refl
+sets-cut l i (suc n) (v ∷ vs) h = sets-cut (set l i v) (suc i) n vs (omega (arith, length-set l i v))
+
+-- of bytes that have no room those are held that fill it
+pub held-cut : (line part after : List ℕ) (held from to cut next : ℕ) → held ≤ length line → to ≤ length part
+    → cut ≡ from + (length line - held) → cut ≤ to → Wrote (between from cut part) line held after next
+    → (next ≡ min (length line) (held + (to - from))) × (after ≡ sets line held (between from to part))
+held-cut line part after held from to cut next h l c b w =
+    let n : ℕ = length line - held in
+    let e : cut - from ≡ n = omega arith in
+    let room : length (between from cut part) ≡ cut - from =
+    length-take-le (cut - from) (drop from part) (omega (arith, length-drop from part)) in (
+      omega (arith, w .place),
+      w .stands
+          ∙ ap (λ (k : ℕ). sets line held (take k (drop from part))) e
+          ∙ ap (sets line held) (sym (take-take n (to - from) (drop from part) (omega arith)))
+          ∙ sets-cut line held n (between from to part) (omega arith),
+    )
+
+-- with all used up the input is over, and nothing more is held
+pub taken-last : (f : Feed) (part line : List ℕ) → usedUp f ≡ true
+    → (lastOf f ≡ takenOf f part (length line)) × (line ≡ sets line (f .held) (ahead f part))
+unfolding usedUp ahead takenOf
+taken-last f part line e = (rw e, rw (line-past part (f .from) (f .to) (leb-true (f .to) (f .from) e)))
+
+-- where not all is used up, something is left
+pub something-left : (f : Feed) → usedUp f ≡ false → f .from < f .to
+unfolding usedUp
+something-left f e = leb-false (f .to) (f .from) e
+
+-- the end of the bytes ahead is found
+module _ (f : Feed) (part : List ℕ) (end : ℕ) (some : usedUp f ≡ false)
+    (e : end ≡ f .from + length (upToLineFeed (between (f .from) (f .to) part))) where
+  -- they end within what was read
+  pub end-within : end ≤ f .to
+  end-within =
+      let most : length (between (f .from) (f .to) part) ≤ f .to - f .from = simp length-take (omega arith) in
+      omega (arith, something-left f some, up-most (between (f .from) (f .to) part))
+
+  -- they are the bytes up to their end
+  end-ahead : between (f .from) end part ≡ ahead f part
+  unfolding ahead
+  end-ahead =
+      let left : List ℕ = between (f .from) (f .to) part in
+      let n : end - f .from ≡ length (upToLineFeed left) = omega arith in
+      let within : end - f .from ≤ f .to - f .from = omega (arith, end-within) in
+      sym (take-take (end - f .from) (f .to - f .from) (drop (f .from) part) within)
+      ∙ ap (λ (k : ℕ). take k left) n
+      ∙ up-taken left
+
+  -- they are held
+  module _ (line after : List ℕ) (held : ℕ) (h : held ≡ min (length line) (f .held + (end - f .from)))
+      (s : after ≡ sets line (f .held) (between (f .from) end part)) where
+    -- the line is as the rule has it with them
+    held-line : after ≡ sets line (f .held) (ahead f part)
+    held-line = s ∙ ap (sets line (f .held)) end-ahead
+
+    -- as many bytes are held as the rule says
+    held-with : held ≡ heldWith (length line) f part
+    unfolding heldWith ahead
+    held-with = omega arith
+
+    -- a line feed behind them ends the line
+    pub taken-ended : end < f .to
+        → (endedAt end held f ≡ takenOf f part (length line)) × (after ≡ sets line (f .held) (ahead f part))
+    unfolding takenOf ahead
+    taken-ended l = (rw (some, ← e, lt-ltb end (f .to) l, held-with), held-line)
+
+    -- without it the line goes on
+    pub taken-goes-on : f .to ≤ end
+        → (goesOn held f ≡ takenOf f part (length line)) × (after ≡ sets line (f .held) (ahead f part))
+    unfolding takenOf ahead
+    taken-goes-on l = (rw (some, ← e, le-ltb end (f .to) l, held-with), held-line)

@@ -1,0 +1,3 @@
+-- Laws of the input. Input: the bytes up to a line feed, and what is taken of them. Bounds: that it is within them.
+pub mod Input
+pub mod Bounds
