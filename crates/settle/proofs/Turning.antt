@@ -32,7 +32,7 @@ pub record Stands (h : Held) : Type 0 where
   pub read : h .flow .feed .to ≤ length (h .part)
   pub held : h .flow .feed .held ≤ length (h .line)
   pub within : h .flow .end ≤ length (h .out)
-  pub room : Buffers (h .numbers) (h .words) (h .out)
+  pub room : Buffers (h .line) (h .numbers) (h .words) (h .out)
 
 -- what a line gives, with a valid book and an answer that can be written
 pub record Given (b : Book) (a : Asked) (ns ws : List ℕ) (p : Played) (after : List ℕ) : Type 0 where
@@ -107,6 +107,7 @@ turned {h} {after} {fed} {taken} {asked} answer s feeds takes asking noting give
       held = rw next (omega (arith, took .held, line));
       within = omega (arith, tells .wrote .place, most, room, out);
       room = record {
+        longer = omega (arith, s .room .longer, line);
         numbered = omega (arith, s .room .numbered, numbers);
         lendable = omega (arith, s .room .lendable, given .same);
         writable = omega (arith, s .room .writable, out);

@@ -1,5 +1,5 @@
 -- A journal, turn by turn.
-use Prim.Native.Nat.{ℕ, _≤_}
+use Prim.Native.Nat.{ℕ, _≤_, _<_}
 use mathlib.Core.Path.{_≡_}
 use mathlib.Core.List.{List}
 use lib.ListN.{length}
@@ -9,6 +9,7 @@ use Rattle.reading.specs.declared.Name.the-variants.{Open, Enter, Withdraw, Can
 use Rattle.reading.specs.declared.Line.{Line}
 use Rattle.reading.specs.declared.Line.the-variants.{Call, Comment, NoCall}
 use Rattle.reading.specs.Calls.{mostListed, mostNumbers}
+use Rattle.reading.specs.Lines.{mostBytes}
 use Rattle.answers.specs.declared.Answer.{Answer}
 use Rattle.answers.specs.Told.{nothing, noCall}
 use Rattle.answers.specs.Text.{mostAnswer, answerText}
@@ -20,8 +21,10 @@ use Rattle.settle.specs.Calls.{played, atFirst, opens, enters, withdraws
 use Rattle.settle.specs.Calls.{closeWordsOf, months, monthWordsOf, shows, balances, LooksAs}
 use Rattle.settle.specs.Flow.{atStart, FedOn, TakenOn, ToldOn}
 
--- the buffers have room for the numbers of a line, for the words that are lent, and for an answer
-pub record Buffers (numbers words out : List ℕ) : Type 0 where
+-- the buffers have room for more than a call's line, so that a longer line is seen to be longer, for the numbers of a
+-- line, for the words that are lent, and for an answer
+pub record Buffers (line numbers words out : List ℕ) : Type 0 where
+  pub longer : mostBytes < length line
   pub numbered : mostNumbers ≤ length numbers
   pub lendable : mostListed ≤ length words
   pub writable : mostAnswer ≤ length out

@@ -33,7 +33,7 @@ fn settle_all(
     words: &mut [u64],
     out: &mut [u8],
 )
-    requires { ⌜ Buffers (now numbers) (now words) (now out) ⌝ }
+    requires { ⌜ Buffers (now line) (now numbers) (now words) (now out) ⌝ }
     ensures { λ _. ⌜ Plays (now (part .exit)) (now (line .exit)) (now (numbers .exit)) (now (words .exit)) (now (out .exit)) ⌝ }
 {
     let mut turns = u64::MAX;

@@ -1,0 +1,70 @@
+-- The program and the theorem: every book that the program holds is one that an Open and a list of calls lead to, so
+-- what is promised of whole journals holds of it.
+use Prim.Native.Nat.{ℕ}
+use mathlib.Core.Path.{_≡_, refl, ap}
+use mathlib.Core.List.{List, [], _∷_}
+use lib.ListN.{length-replicate}
+use Rattle.calendar.specs.Closed.{day}
+use Rattle.book.specs.declared.Book.{Book}
+use Rattle.reading.specs.declared.Line.{Line}
+use Rattle.journal.specs.Calls.{Opening, Call, enter, withdraw, cancel, deliver, offer, close, month, Run}
+use Rattle.journal.specs.Played.{outcome, played}
+use Rattle.journal.proofs.Demand3.{Promise}
+use Rattle.journal.proofs.Theorem.{demand-3}
+use Rattle.settle.specs.declared.calls.Asked.{Asked}
+use Rattle.settle.specs.declared.calls.Played.{Played}
+use Rattle.settle.specs.Calls.{listIn, lentTo}
+use Rattle.settle.specs.Turns.{Gives, Held, Reached}
+use Rattle.settle.specs.Turns.Gives.{opening, entering, withdrawing, cancelling, delivering, offering, closing, paying, showing, balancing, looking, passing, objecting}
+use Rattle.settle.specs.Turns.Reached.{start, turn}
+
+-- an Open and a list of calls lead to the book
+pub record Leads (b : Book) : Type 0 where
+  pub opened : Opening
+  pub calls : List Call
+  pub there : b ≡ played opened calls .book
+
+-- an Open does
+begins : (o : Opening) → Leads (played o [] .book)
+begins o = record { opened = o; calls = []; there = refl }
+
+-- one call more does
+goes-on : {b : Book} (c : Call) → Leads b → Leads (outcome b c .book)
+goes-on c l = record {
+  opened = l .opened;
+  calls = c ∷ l .calls;
+  there = ap (λ (x : Book). outcome x c .book) (l .there);
+}
+
+-- whatever a line gives
+line-leads : {b : Book} {a : Asked} {ns ws : List ℕ} {l : Line} {p : Played} {after : List ℕ}
+    → Gives b a ns ws l p after → Leads b → Leads (p .book)
+line-leads {b} {a} {ns} {ws} (opening n) j =
+    begins (record { first = day (a .first); closed = listIn a ns; terms = a .second })
+line-leads {b} {a} (entering n) j =
+    goes-on (enter (a .first) (a .second) (a .third) (a .fourth) (a .fifth) (day (a .sixth))) j
+line-leads {b} {a} (withdrawing n) j = goes-on (withdraw (a .first) (a .second)) j
+line-leads {b} {a} (cancelling n) j = goes-on (cancel (a .first) (a .second)) j
+line-leads {b} {a} (delivering n) j = goes-on (deliver (a .first) (a .second)) j
+line-leads {b} {a} (offering n) j = goes-on (offer (a .first) (a .second) (a .third) (a .fourth)) j
+line-leads {b} {a} (closing n) j =
+    rw (length-replicate (a .lent) (a .fill)) at (goes-on (close (a .first) (a .second) (lentTo a)) j)
+line-leads {b} {a} {ns} (paying n) j =
+    rw (length-replicate (a .lent) (a .fill)) at (goes-on (month (listIn a ns) (lentTo a)) j)
+line-leads (showing n) j = j
+line-leads (balancing n) j = j
+line-leads (looking n answer h) j = j
+line-leads passing j = j
+line-leads objecting j = j
+
+-- the book that the program holds, after any turns
+pub held-leads : {h : Held} → Reached h → Leads (h .book)
+held-leads (start part line numbers words out) = begins (record { first = day 0; closed = []; terms = 2 })
+held-leads (turn r t) = line-leads (t .gives) (held-leads r)
+
+-- so it is the book of a journal of which all is promised
+pub held-promised : {h : Held} → Reached h → (s : Run) × Promise s × (h .book ≡ s .book)
+held-promised r =
+    let l = held-leads r in
+    let s = played (l .opened) (l .calls) in
+    (s, demand-3 {M = Type 0} .whole s (demand-3 {M = Type 0} .each (l .opened) (l .calls)), l .there)
