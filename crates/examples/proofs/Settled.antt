@@ -41,15 +41,15 @@ nth : (cs : List Day) (j e n : ℕ) → j ≤ e → e ≤ lastDay → clearing c
 unfolding ageAt
 nth cs j e n h m q c = age-nth cs (day j) (day e) n h m q .0 (λ i. clearingDays (c i))
 
-thirtieth : nthAfter [] (day 2) (clearingDays 30) ≡ At (day 44)
+pub thirtieth : nthAfter [] (day 2) (clearingDays 30) ≡ At (day 44)
 unfolding clearing clearingWithin among
 thirtieth = nth [] 2 44 30 (omega arith) (omega arith) refl refl
 
-thirty-fifth : nthAfter [] (day 2) (clearingDays 35) ≡ At (day 51)
+pub thirty-fifth : nthAfter [] (day 2) (clearingDays 35) ≡ At (day 51)
 unfolding clearing clearingWithin among
 thirty-fifth = nth [] 2 51 35 (omega arith) (omega arith) refl refl
 
-thirtieth-after-closed : nthAfter (day 44 ∷ []) (day 2) (clearingDays 30) ≡ At (day 45)
+pub thirtieth-after-closed : nthAfter (day 44 ∷ []) (day 2) (clearingDays 30) ≡ At (day 45)
 unfolding clearing clearingWithin among
 thirtieth-after-closed = nth (day 44 ∷ []) 2 45 30 (omega arith) (omega arith) refl refl
 

@@ -1,4 +1,5 @@
-// Puts the settled examples through the code and prints each answer beside the settled one.
+// Puts the settled examples through the code and prints each answer beside the settled one. That none differs is proved;
+// what is printed shows it.
 use calendar::ClearingDays;
 use calendar::ClosedDays;
 use calendar::Day;
@@ -8,12 +9,15 @@ use offers::Offer;
 use offers::Offers;
 ghost use mathlib.Core.Path.{_≡_};
 ghost use Prim.Native.Nat.{_≤_};
+ghost use lib.Dec.{eqb};
+ghost use Rattle.basics.specs.Choice.{pick};
 ghost use Rattle.calendar.specs.Closed.{day, listed};
 ghost use Rattle.calendar.specs.Days.{clearingDays, nthAfter};
 ghost use Rattle.examples.specs.Table.{asNumber, dayOrNone, offerOf};
 
 // Prints one answer of an example and answers 1 where it is not the settled one, else 0.
 fn compared(item: u64, answer: u64, settled: u64) -> u64
+    ensures { λ r. ⌜ r ≡ pick (eqb answer settled) 0 1 ⌝ }
     ensures { λ r. ⌜ r ≤ 1 ⌝ }
 {
     io::write_all(STDOUT_FILENO, b"example ");
@@ -39,7 +43,7 @@ fn as_number(test: bool) -> u64
 
 // Examples 1 to 3: penalties and compensation.
 fn rounded_amounts() -> u64
-    ensures { λ r. ⌜ r ≤ 5 ⌝ }
+    ensures { λ r. ⌜ r ≡ 0 ⌝ }
 {
     compared(1, amounts::penalty_of(1_000, 100_000, 10), 1_000)
         + compared(2, amounts::penalty_of(1, 50_000, 10), 1)
@@ -50,7 +54,7 @@ fn rounded_amounts() -> u64
 
 // Examples 4 to 6: the cap and the tolerance, 1 standing for yes.
 fn limits() -> u64
-    ensures { λ r. ⌜ r ≤ 6 ⌝ }
+    ensures { λ r. ⌜ r ≡ 0 ⌝ }
 {
     compared(4, as_number(amounts::above_cap(107_998, 99_999)), 0)
         + compared(4, as_number(amounts::above_cap(107_999, 99_999)), 1)
@@ -78,7 +82,7 @@ fn limits() -> u64
 
 // Example 7: three deliveries of one unit.
 fn part_deliveries() -> u64
-    ensures { λ r. ⌜ r ≤ 3 ⌝ }
+    ensures { λ r. ⌜ r ≡ 0 ⌝ }
 {
     compared(7, amounts::cash_for(1_000, 3, 0, 1), 333)
         + compared(7, amounts::cash_for(1_000, 3, 1, 2), 333)
@@ -87,7 +91,7 @@ fn part_deliveries() -> u64
 
 // Example 8: a hundred cents for claims of 200 and 100, and for three of 100.
 fn months() -> u64
-    ensures { λ r. ⌜ r ≤ 5 ⌝ }
+    ensures { λ r. ⌜ r ≡ 0 ⌝ }
 {
     let mut two = [0i64; 32];
     two[0] = 200;
@@ -117,7 +121,7 @@ fn nth_after_2(closed: ClosedDays, n: u64) -> u64
 
 // Example 9: clearing days with no closed day, and with day 44 closed.
 fn clearing_days() -> u64
-    ensures { λ r. ⌜ r ≤ 3 ⌝ }
+    ensures { λ r. ⌜ r ≡ 0 ⌝ }
 {
     let list = [44u64; 1];
     let all_open = ClosedDays::listed(&list[..0]);
@@ -141,7 +145,7 @@ fn offered(supplier: u64, quantity: u64, price: u64) -> Offer
 
 // Example 10, the auction: who gives and how much.
 fn auction() -> u64
-    ensures { λ r. ⌜ r ≤ 5 ⌝ }
+    ensures { λ r. ⌜ r ≡ 0 ⌝ }
 {
     let offers = Offers::none()
         .insert(offered(1, 7, 101_000))
@@ -160,7 +164,7 @@ fn auction() -> u64
 
 // Example 10, the charges of the two quantities bought.
 fn charges() -> u64
-    ensures { λ r. ⌜ r ≤ 2 ⌝ }
+    ensures { λ r. ⌜ r ≡ 0 ⌝ }
 {
     let first = amounts::cash_for(1_000_000, 10, 0, 5);
     let second = amounts::cash_for(1_000_000, 10, 5, 10);

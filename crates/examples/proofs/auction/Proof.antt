@@ -1,13 +1,29 @@
 -- `auction` meets its contract.
+use lib.ListN.{getD}
+use mathlib.Core.Path.{_≡_, ap, ap₂, _∙_}
+use Prim.Native.Nat.{ℕ}
 use native.Mathlib.Omega.{arith}
-use mathlib.Core.Path.{_≡_, ap}
 use borrow.Author.Needs.{needs}
+use Rattle.examples.proofs.Same.{none-differs}
+use Rattle.offers.specs.BuyIn.{offersFor, withGiven, givenBy, given, nothingGiven, boughtWith}
+use Rattle.offers.specs.Held.{listed, withOffer}
+use Rattle.offers.specs.Rank.{overtakes, insertedBy}
+use Rattle.offers.specs.declared.Given.{Given}
+use Rattle.offers.specs.declared.BuyIn.{BuyIn}
 use Rattle.offers.specs.declared.Offers.{Offers}
 use Rattle.examples.proofs.auction.Statement.{statement}
 use Rattle.examples.proofs.auction.Tie as tie
 
 same-count : {r s : Offers} → r ≡ s → r .count ≡ s .count
 same-count e = ap (λ (o : Offers). o .count) e
+
+-- what offers give to ten units of obligation 0
+abbrev gives : Offers → BuyIn
+gives o = boughtWith (given 0 10 (listed o))
+
+-- what is given in a place
+abbrev rowAt : ℕ → BuyIn → Given
+rowAt k b = getD (b .given) k nothingGiven
 
 none-requires : tie.Need-none-requires
 none-requires c κs = search needs
@@ -67,7 +83,19 @@ add-result-4 : tie.Need-add-result-4
 add-result-4 c = search needs
 
 returns : tie.Need-returns
-returns c = search needs
+unfolding overtakes insertedBy offersFor withGiven givenBy given
+returns c = let one = c .before .before .before .before .before .before .before .before .before .before .before .before .before .insert .ensures ∙ ap₂ withOffer (c .before .before .before .before .before .before .before .before .before .before .before .before .before .before .before .none .ensures) (c .before .before .before .before .before .before .before .before .before .before .before .before .before .before .offered .ensures) in
+    let two = c .before .before .before .before .before .before .before .before .before .before .before .insert2 .ensures ∙ ap₂ withOffer one (c .before .before .before .before .before .before .before .before .before .before .before .before .offered2 .ensures) in
+    let three = c .before .before .before .before .before .before .before .before .before .insert3 .ensures ∙ ap₂ withOffer two (c .before .before .before .before .before .before .before .before .before .before .offered3 .ensures) in
+    let bought = c .before .before .before .before .before .before .before .before .buy-in .ensures ∙ ap gives three in
+    omega (
+      arith,
+      none-differs (ap (λ (b : BuyIn). b .count) bought) (c .before .before .before .before .compared .ensures .0),
+      none-differs (ap (λ (b : BuyIn). rowAt 0 b .offer .supplier) bought) (c .before .before .before .compared2 .ensures .0),
+      none-differs (ap (λ (b : BuyIn). rowAt 0 b .quantity) bought) (c .before .before .compared3 .ensures .0),
+      none-differs (ap (λ (b : BuyIn). rowAt 1 b .offer .supplier) bought) (c .before .compared4 .ensures .0),
+      none-differs (ap (λ (b : BuyIn). rowAt 1 b .quantity) bought) (c .compared5 .ensures .0),
+    )
 
 pub auction-spec : {M : Type 1} → statement M
 auction-spec =

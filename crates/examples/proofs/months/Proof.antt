@@ -1,10 +1,37 @@
 -- `months` meets its contract.
-use mathlib.Core.Path.{refl}
+use mathlib.Core.List.{List, _∷_}
+use Prim.Native.Nat.{ℕ}
+use lib.ListN.{getD, replicate}
+use mathlib.Core.Path.{_≡_, refl, ap, _∙_}
+use native.Mathlib.Omega.{arith}
 use borrow.Author.Needs.{needs}
-use Rattle.basics.specs.Lists.{total}
 use Rattle.examples.proofs.Small.{shareable}
+use Rattle.netting.specs.Shares.{floorShare, remainder, centsLeft, comesBefore, rank, extraCent, share, shares}
+use Rattle.basics.specs.Lists.{total, tableFrom, countBelow}
+use Rattle.examples.proofs.Same.{none-differs}
 use Rattle.examples.proofs.months.Statement.{statement}
 use Rattle.examples.proofs.months.Tie as tie
+
+-- the share of a member
+abbrev shareAt : ℕ → List ℕ → ℕ
+shareAt m l = getD l m 0
+
+-- claims of 200 and 100
+abbrev claimsOfTwo : List ℕ
+claimsOfTwo = 200 ∷ 100 ∷ replicate 30 0
+
+-- three claims of 100
+abbrev claimsOfThree : List ℕ
+claimsOfThree = 100 ∷ 100 ∷ 100 ∷ replicate 29 0
+
+of-two : (shareAt 0 (shares 100 claimsOfTwo) ≡ 67) × (shareAt 1 (shares 100 claimsOfTwo) ≡ 33)
+unfolding total tableFrom countBelow floorShare remainder centsLeft comesBefore rank extraCent share shares
+of-two = (refl, refl)
+
+of-three : (shareAt 0 (shares 100 claimsOfThree) ≡ 34) × (shareAt 1 (shares 100 claimsOfThree) ≡ 33)
+    × (shareAt 2 (shares 100 claimsOfThree) ≡ 33)
+unfolding total tableFrom countBelow floorShare remainder centsLeft comesBefore rank extraCent share shares
+of-three = (refl, refl, refl)
 
 array-set-of-two : tie.Need-array-set-of-two
 array-set-of-two c = search needs
@@ -72,7 +99,15 @@ add-result-4 : tie.Need-add-result-4
 add-result-4 c = search needs
 
 returns : tie.Need-returns
-returns c = search needs
+returns c = let two = c .before .before .before .before .before .before .shares-of .ensures in let three = c .before .before .before .before .before .shares-of2 .ensures in
+    omega (
+      arith,
+      none-differs (ap (shareAt 0) two ∙ of-two .0) (c .before .before .before .before .compared .ensures .0),
+      none-differs (ap (shareAt 1) two ∙ of-two .1) (c .before .before .before .compared2 .ensures .0),
+      none-differs (ap (shareAt 0) three ∙ of-three .0) (c .before .before .compared3 .ensures .0),
+      none-differs (ap (shareAt 1) three ∙ of-three .1) (c .before .compared4 .ensures .0),
+      none-differs (ap (shareAt 2) three ∙ of-three .2) (c .compared5 .ensures .0),
+    )
 
 pub months-spec : {M : Type 1} → statement M
 months-spec =
