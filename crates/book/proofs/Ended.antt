@@ -55,6 +55,7 @@ module _ (b : Book) (v : Valid b) (price rate : ℕ) (p : price ≤ mostClosePri
   closable ws long = record {
     valid = v .ledger-valid;
     apart = omega (arith, v .notice-before, v .grace-before);
+    rises = v .closed-rises;
     price-most = p;
     rate-most = r;
     accounts-near = λ m. omega (arith, v .accounts-near m, v .today-most);
@@ -128,6 +129,7 @@ module _ (b : Book) (v : Valid b) (price rate : ℕ) (p : price ≤ mostClosePri
     closed-valid = record {
       closed-size = v .closed-size;
       closed-few = v .closed-few;
+      closed-rises = v .closed-rises;
       notice-before = v .notice-before;
       grace-before = v .grace-before;
       last-most = v .last-most;

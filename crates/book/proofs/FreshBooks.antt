@@ -2,17 +2,18 @@
 use Prim.Native.Nat.{ℕ, zero, suc, _≤_, _<_}
 use native.Mathlib.Omega.{arith}
 use mathlib.Core.Path.{_≡_, refl, sym, ap}
-use mathlib.Core.Bool.{Bool, true, false, _||_, _&&_, not}
+use mathlib.Core.Bool.{Bool, true, false, _||_, not}
 use mathlib.Core.List.{List, [], map}
 use lib.Dec.{ltb, leb, eqb}
 use lib.IntN.{pos, natAbs}
 use lib.ListN.{length, getD, replicate, length-map}
-use borrow.Author.Tests.{ltb-false, leb-true}
-use Rattle.basics.proofs.Cases.{never, pick-case}
+use borrow.Author.Tests.{ltb-false, leb-true, not-false}
+use Rattle.basics.proofs.Cases.{never, pick-case, and-true}
 use Rattle.basics.proofs.Places.{padded-length}
 use Rattle.calendar.specs.declared.Day.{Day}
 use Rattle.calendar.specs.Closed.{day, lastDay, mostClosed, risesFrom, closedRefused, closedDays, listed, among}
 use Rattle.calendar.specs.Days.{clearing}
+use Rattle.calendar.proofs.Closed.{given-rises}
 use Rattle.instructions.proofs.Keeping.{none-valid, none-waiting}
 use Rattle.ledger.specs.declared.Terms.{Terms}
 use Rattle.ledger.proofs.Valid.{new-valid}
@@ -35,25 +36,26 @@ stages terms =
     pick-case Stages (eqb terms 0) _ _ (λ e. record { notice-before = omega arith; grace-before = omega arith; last-most = omega arith })
     (λ e. record { notice-before = omega arith; grace-before = omega arith; last-most = omega arith })
 
--- a list of closed days that is not refused is short enough
-pub closed-short : (ds : List ℕ) → closedRefused ds ≡ false → length ds ≤ mostClosed
+-- a list of closed days that is not refused is short enough and rises
+closed-taken : (ds : List ℕ) → closedRefused ds ≡ false → (length ds ≤ mostClosed) × (risesFrom 0 ds ≡ true)
 unfolding closedRefused
-closed-short ds e = by (leb (length ds) mostClosed) refl e
-  where
-    by : (t : Bool) → leb (length ds) mostClosed ≡ t → not (t && risesFrom 0 ds) ≡ false → length ds ≤ mostClosed
-    by true t q = leb-true (length ds) mostClosed t
-    by false t q = absurd (never (sym q))
+closed-taken ds e = let p = and-true (leb (length ds) mostClosed) (risesFrom 0 ds) (not-false _ e) in (leb-true (length ds) mostClosed (p .0), p .1)
+
+pub closed-short : (ds : List ℕ) → closedRefused ds ≡ false → length ds ≤ mostClosed
+closed-short ds e = closed-taken ds e .0
 
 -- a fresh book on a clearing day
-pub fresh-valid : (first : Day) (ds : List ℕ) (terms : ℕ) → length ds ≤ mostClosed → first .0 ≤ lastDay → clearing (listed (closedDays ds)) first ≡ true →
+pub fresh-valid : (first : Day) (ds : List ℕ) (terms : ℕ) → closedRefused ds ≡ false → first .0 ≤ lastDay → clearing (listed (closedDays ds)) first ≡ true →
     Valid (freshBook first (closedDays ds) terms)
 unfolding closedDays
-fresh-valid first ds terms short most clears =
+fresh-valid first ds terms taken most clears =
     let s = stages terms in
     let l = length-map ds day in
+    let t = closed-taken ds taken in
     record {
-      closed-size = padded-length mostClosed (day 0) (map day ds) (omega arith);
-      closed-few = short;
+      closed-size = padded-length mostClosed (day 0) (map day ds) (omega (arith, t .0));
+      closed-few = t .0;
+      closed-rises = given-rises ds (t .1);
       notice-before = s .notice-before;
       grace-before = s .grace-before;
       last-most = s .last-most;
@@ -68,8 +70,8 @@ fresh-valid first ds terms short most clears =
     }
 
 pub refused-valid : Valid refusedBook
-unfolding refusedBook closedDays listed clearing among
-refused-valid = fresh-valid (day 2) [] 0 (omega arith) (omega arith) refl
+unfolding refusedBook closedDays closedRefused risesFrom listed clearing among
+refused-valid = fresh-valid (day 2) [] 0 refl (omega arith) refl
 
 -- a first day that is not refused
 pub first-good : (cs : List Day) (first : Day) → (ltb lastDay (first .0) || not (clearing cs first)) ≡ false → (first .0 ≤ lastDay) × (clearing cs first ≡ true)

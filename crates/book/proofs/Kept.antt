@@ -54,6 +54,7 @@ module _ (b : Book) (v : Valid b) where
   with-parts-valid legs l g k r a t = record {
     closed-size = v .closed-size;
     closed-few = v .closed-few;
+    closed-rises = v .closed-rises;
     notice-before = v .notice-before;
     grace-before = v .grace-before;
     last-most = v .last-most;

@@ -28,6 +28,7 @@ unfolding balance ageOf
 paid-valid b v = record {
   closed-size = v .closed-size;
   closed-few = v .closed-few;
+  closed-rises = v .closed-rises;
   notice-before = v .notice-before;
   grace-before = v .grace-before;
   last-most = v .last-most;

@@ -4,7 +4,7 @@ use mathlib.Core.Path.{_≡_}
 use mathlib.Core.Bool.{true}
 use lib.IntN.{pos, natAbs}
 use lib.ListN.{length, getD}
-use Rattle.calendar.specs.Closed.{lastDay, mostClosed, listed}
+use Rattle.calendar.specs.Closed.{lastDay, mostClosed, listed, Rises}
 use Rattle.calendar.specs.Days.{clearing, ageAt}
 use Rattle.instructions.specs.declared.Legs.{Legs}
 use Rattle.instructions.specs.Legs.{waiting, ValidLegs}
@@ -47,6 +47,7 @@ mostPerDay = 96000000
 pub record Valid (b : Book) : Type 0 where
   pub closed-size : length (b .closed .days) ≡ 64
   pub closed-few : b .closed .count ≤ mostClosed
+  pub closed-rises : Rises (b .closed)
   pub notice-before : b .terms .notice .0 < b .terms .grace .0
   pub grace-before : b .terms .grace .0 < b .terms .last .0
   pub last-most : b .terms .last .0 ≤ 35

@@ -1,19 +1,18 @@
 -- The list of closed days, day by day.
-use Prim.Native.Nat.{ℕ, suc, _+_, _-_, _≤_, _<_}
+use Prim.Native.Nat.{ℕ, _+_, _≤_, _<_}
 use native.Mathlib.Omega.{arith}
 use native.Mathlib.Numerals.{add-one}
 use mathlib.Core.Path.{_≡_, refl, sym, ap, _∙_}
-use mathlib.Core.Bool.{Bool, true, false, _&&_}
+use mathlib.Core.Bool.{true, _&&_}
 use mathlib.Core.List.{List, [], _∷_, _++_, map}
-use lib.Dec.{eqb, leb}
+use lib.Dec.{leb}
 use lib.ListN.{length, getD, set, take, drop, length-take, length-map, drop-of-length-le}
 use lib.Seq.{drop-cons, getD-take, take-suc, take-all, length-take-le}
-use Rattle.basics.specs.Choice.{pick}
 use Rattle.basics.specs.Lists.{padded}
-use Rattle.basics.proofs.Places.{padded-more}
+use Rattle.basics.proofs.Places.{padded-more, padded-front}
 use Rattle.calendar.specs.declared.Day.{Day}
 use Rattle.calendar.specs.declared.ClosedDays.{ClosedDays}
-use Rattle.calendar.specs.Closed.{day, lastDay, mostClosed, risesFrom, closedDays, listed, among}
+use Rattle.calendar.specs.Closed.{day, lastDay, mostClosed, risesFrom, closedDays, listed, Rises}
 
 -- ---- rising
 -- the list from place i on
@@ -53,29 +52,31 @@ stored-all ds i days h k e =
     let l : i ≡ length ds = omega arith in
     rw (e, take-all i ds k) (ap (λ (n : ℕ). record { days = padded mostClosed (day 0) (map day ds); count = n }) l)
 
--- ---- searching
-among-drop : (cs : List Day) (d : Day) (i : ℕ) → i < length cs →
-    among (drop i cs) d ≡ pick (eqb (getD cs i (day 0) .0) (d .0)) true (among (drop (i + 1) cs) d)
-unfolding among
-among-drop cs d i h = rw (add-one i, drop-cons cs i (day 0) h)
-
-module _ (closed : ClosedDays) (d : Day) (size : length (closed .days) ≡ 64) where
-  listed-length : length (listed closed) ≤ 64
+-- ---- the closed days from place i on
+module _ (closed : ClosedDays) (size : length (closed .days) ≡ 64) where
+  pub listed-more : (i : ℕ) → i < 64 → i < closed .count → drop i (listed closed) ≡ getD (closed .days) i (day 0) ∷ drop (i + 1) (listed closed)
   unfolding listed
-  listed-length = omega (arith, length-take (closed .count) (closed .days))
+  listed-more i h k =
+      let l = length-take (closed .count) (closed .days) in
+      rw (add-one i, drop-cons (take (closed .count) (closed .days)) i (day 0) (omega arith), getD-take (closed .count) (closed .days) i (day 0) k)
 
-  -- the closed days from place i on
-  pub search-more : (i : ℕ) → i < 64 → i < closed .count →
-      among (drop i (listed closed)) d ≡ pick (eqb (getD (closed .days) i (day 0) .0) (d .0)) true (among (drop (i + 1) (listed closed)) d)
+  pub listed-past : (i : ℕ) → closed .count ≤ i → drop i (listed closed) ≡ []
   unfolding listed
-  search-more i h k =
-      among-drop (take (closed .count) (closed .days)) d i (omega (arith, length-take (closed .count) (closed .days)))
-      ∙ rw (getD-take (closed .count) (closed .days) i (day 0) k)
+  listed-past i h = drop-of-length-le (take (closed .count) (closed .days)) {i = i} (omega (arith, length-take (closed .count) (closed .days)))
 
-  pub search-past : (i : ℕ) → closed .count ≤ i → among (drop i (listed closed)) d ≡ false
-  unfolding among listed
-  search-past i h = rw (drop-of-length-le (take (closed .count) (closed .days)) {i = i} (omega (arith, length-take (closed .count) (closed .days))))
+  pub listed-end : (i : ℕ) → 64 ≤ i → drop i (listed closed) ≡ []
+  unfolding listed
+  listed-end i h = drop-of-length-le (take (closed .count) (closed .days)) {i = i} (omega (arith, length-take (closed .count) (closed .days)))
 
-  pub search-end : (i : ℕ) → 64 ≤ i → among (drop i (listed closed)) d ≡ false
-  unfolding among
-  search-end i h = rw (drop-of-length-le (listed closed) {i = i} (omega (arith, listed-length)))
+-- ---- the closed days of a list
+numbers-back : (ds : List ℕ) → map (λ (d : Day). d .0) (map day ds) ≡ ds
+numbers-back [] = refl
+numbers-back (d ∷ ds) = ap (λ (l : List ℕ). d ∷ l) (numbers-back ds)
+
+-- they rise where the list does
+pub given-rises : (ds : List ℕ) → risesFrom 0 ds ≡ true → Rises (closedDays ds)
+unfolding Rises closedDays listed
+given-rises ds h =
+    let e : take (length ds) (padded mostClosed (day 0) (map day ds)) ≡ map day ds =
+    ap (λ (n : ℕ). take n (padded mostClosed (day 0) (map day ds))) (sym (length-map ds day)) ∙ padded-front mostClosed (day 0) (map day ds) in
+    rw (e, numbers-back ds) h

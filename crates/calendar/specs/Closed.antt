@@ -1,6 +1,7 @@
 -- The book's list of closed days.
 use Prim.Native.Nat.{ℕ, _+_}
 use mathlib.Core.Bool.{Bool, true, false, not, _&&_}
+use mathlib.Core.Path.{_≡_}
 use mathlib.Core.List.{List, [], _∷_, map}
 use lib.Dec.{eqb, leb}
 use lib.ListN.{length, take}
@@ -37,6 +38,10 @@ closedDays ds = record { days = padded mostClosed (day 0) (map day ds); count = 
 -- 01, Days and units: the days in the book's list of closed days
 unfoldable pub listed : ClosedDays → List Day
 listed closed = take (closed .count) (closed .days)
+
+-- 01, Open: the closed days of a book rise strictly, and none is after the last day
+unfoldable pub Rises : ClosedDays → Type 0
+Rises closed = risesFrom 0 (map (λ (d : Day). d .0) (listed closed)) ≡ true
 
 -- d is one of the days of a list
 unfoldable pub among : List Day → Day → Bool

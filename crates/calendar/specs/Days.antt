@@ -1,8 +1,8 @@
 -- Clearing days, and how they are counted.
-use Prim.Native.Nat.{ℕ, zero, suc, _+_, _-_, _%_}
-use mathlib.Core.Bool.{Bool, true, false, not, _&&_}
-use mathlib.Core.List.{List}
-use lib.Dec.{leb}
+use Prim.Native.Nat.{ℕ, zero, suc, _+_, _-_, _*_, _/_, _%_}
+use mathlib.Core.Bool.{Bool, not, _&&_}
+use mathlib.Core.List.{List, [], _∷_}
+use lib.Dec.{leb, ltb}
 use Rattle.basics.specs.Choice.{pick}
 use Rattle.calendar.specs.declared.Day.{Day}
 use Rattle.calendar.specs.declared.ClearingDays.{ClearingDays}
@@ -49,3 +49,16 @@ clearingWithin cs d (suc k) = clearingWithin cs d k + pick (clearing cs (day (d 
 -- 01, Buy-in: the age is the number of clearing days after J up to today
 unfoldable pub ageAt : List Day → Day → Day → ClearingDays
 ageAt cs j today = clearingDays (clearingWithin cs (j .0) (today .0 - j .0))
+
+-- no rule, but how the age is worked out: the weekdays up to day n, with remainders 2 to 6 by 7
+unfoldable pub weekdaysTo : ℕ → ℕ
+weekdaysTo n = 5 * (n / 7) + (n % 7 - 1)
+
+-- no rule: closed day c is a weekday after one day up to another
+unfoldable pub takesAway : Day → Day → Day → Bool
+takesAway c after to = ltb (after .0) (c .0) && (leb (c .0) (to .0) && leb 2 (c .0 % 7))
+
+-- no rule: how many closed days are weekdays after one day up to another
+unfoldable pub closedBetween : List Day → Day → Day → ℕ
+closedBetween [] after to = 0
+closedBetween (c ∷ cs) after to = pick (takesAway c after to) 1 0 + closedBetween cs after to

@@ -3,8 +3,8 @@
 ghost use mathlib.Core.Path.{_≡_};
 ghost use Prim.Native.Nat.{_≤_};
 ghost use lib.ListN.{length};
-ghost use Rattle.calendar.specs.Closed.{mostClosed, risesFrom, closedRefused, closedDays, listed, among};
-ghost use Rattle.calendar.specs.Days.{clearing, nextAfter, nthAfter, ageAt};
+ghost use Rattle.calendar.specs.Closed.{mostClosed, risesFrom, closedRefused, closedDays, listed, Rises, among};
+ghost use Rattle.calendar.specs.Days.{clearing, nextAfter, nthAfter, ageAt, weekdaysTo, takesAway, closedBetween};
 
 // A calendar day by its number; day 0 is Saturday 1 January 2000.
 pub struct Day(pub u64);
@@ -54,6 +54,31 @@ pub fn refuses_closed(days: &[u64]) -> bool
         return true;
     }
     if is_rising(days) { false } else { true }
+}
+
+// How many weekdays there are up to a day: remainders 2 to 6 by 7.
+fn weekdays_to(day: Day) -> u64
+    ensures { λ r. ⌜ r ≡ weekdaysTo (day .0) ⌝ }
+{
+    let weeks = 5 * (day.0 / 7);
+    let rest = day.0 % 7;
+    if rest == 0 {
+        return weeks;
+    }
+    weeks + rest - 1
+}
+
+// Whether a closed day is a weekday after one day up to another.
+fn takes_away(closed: Day, after: Day, to: Day) -> bool
+    ensures { λ r. ⌜ r ≡ takesAway closed after to ⌝ }
+{
+    if closed.0 <= after.0 {
+        return false;
+    }
+    if to.0 < closed.0 {
+        return false;
+    }
+    2 <= closed.0 % 7
 }
 
 impl ClosedDays {
@@ -132,19 +157,34 @@ impl ClosedDays {
         self.next_after(previous)
     }
 
-    // The age at today of what was due on a day: it walks only the days since then.
+    // How many closed days are weekdays after one day up to another.
+    fn closed_between(self, after: Day, to: Day) -> u64
+        ensures { λ r. ⌜ r ≡ closedBetween (listed self) after to ⌝ }
+    {
+        let days = self.days;
+        let count = self.count;
+        let mut n: u64 = 0;
+        let mut i = 0;
+        while i < 64 {
+            if count <= i {
+                return n;
+            }
+            if takes_away(days[i], after, to) {
+                n += 1;
+            }
+            i += 1;
+        }
+        n
+    }
+
+    // The age at today of what was due on a day: the weekdays since then without the closed days among them.
     pub fn age_at(self, due: Day, today: Day) -> ClearingDays
+        requires { ⌜ Rises self ⌝ }
         ensures { λ r. ⌜ r ≡ ageAt (listed self) due today ⌝ }
     {
-        let mut age: u64 = 0;
-        let mut d = due.0;
-        let end = today.0;
-        while d < end {
-            d += 1;
-            if self.is_clearing(Day(d)) {
-                age += 1;
-            }
+        if today.0 <= due.0 {
+            return ClearingDays(0);
         }
-        ClearingDays(age)
+        ClearingDays(weekdays_to(today) - weekdays_to(due) - self.closed_between(due, today))
     }
 }

@@ -142,6 +142,7 @@ done-room d l n count next ws ws' c h s =
 pub done-closes : (d : DayEnd) (l : Ledger) (n : ℕ) (ws : List ℕ) → Closable d l ws → n < l .count → Closes d (l .offers) (obligationAt l n)
 done-closes d l n ws c h = record {
   sound = c .valid .sound n h;
+  rises = c .rises;
   price-most = c .price-most;
   rate-most = c .rate-most;
   priced = record { few = c .valid .offers-few; prices = every-map (λ (x : Offer) (s : SoundOffer (l .count) x). s .price-most) (c .valid .offers-sound) };

@@ -5,6 +5,7 @@ use mathlib.Core.List.{List}
 use lib.IntN.{ℤ, pos, natAbs}
 use lib.ListN.{length, getD, take}
 use Rattle.basics.specs.Lists.{Every}
+use Rattle.calendar.specs.Closed.{Rises}
 use Rattle.amounts.specs.Amounts.{mostClosePrice, mostOfferPrice, mostRate}
 use Rattle.offers.specs.declared.Offers.{Offers}
 use Rattle.offers.specs.declared.Given.{Given}
@@ -39,6 +40,7 @@ pub record Buys (o : Obligation) (b : BuyIn) : Type 0 where
 -- what the Close of one obligation asks
 pub record Closes (d : DayEnd) (offers : Offers) (o : Obligation) : Type 0 where
   pub sound : Sound o
+  pub rises : Rises (d .closed)
   pub price-most : d .price ≤ mostClosePrice
   pub rate-most : d .rate ≤ mostRate
   pub priced : Priced offers
@@ -47,11 +49,12 @@ pub record Closes (d : DayEnd) (offers : Offers) (o : Obligation) : Type 0 where
 abbrev pub Near : List ℤ → Type 0
 Near accounts = (m : ℕ) → natAbs (getD accounts m (pos 0)) ≤ 8000000000000
 
--- what the Close of a ledger asks: a valid ledger, terms whose notice comes before the last day, limits of its price and
--- rate, accounts that can take its penalties, and room for 192 lines of six words
+-- what the Close of a ledger asks: a valid ledger, terms whose notice comes before the last day, closed days that rise,
+-- limits of its price and rate, accounts that can take its penalties, and room for 192 lines of six words
 pub record Closable (d : DayEnd) (l : Ledger) (ws : List ℕ) : Type 0 where
   pub valid : ValidLedger l
   pub apart : d .terms .notice .0 < d .terms .last .0
+  pub rises : Rises (d .closed)
   pub price-most : d .price ≤ mostClosePrice
   pub rate-most : d .rate ≤ mostRate
   pub accounts-near : Near (l .accounts)

@@ -15,7 +15,7 @@ use Rattle.refusals.specs.Calls.{badFirst}
 use Rattle.refusals.proofs.Refusals.{passed}
 use Rattle.book.specs.Book.{Valid}
 use Rattle.book.specs.Open.{opened, openRefusals, openRefused, termsOf, freshBook, refusedBook}
-use Rattle.book.proofs.FreshBooks.{closed-short, fresh-valid, refused-valid, first-good}
+use Rattle.book.proofs.FreshBooks.{fresh-valid, refused-valid, first-good}
 use Rattle.book.proofs.Paid.{zero-at}
 use Rattle.journal.specs.Calls.{Opening, Call, Run}
 use Rattle.journal.specs.Played.{outcome, eventOf, begun, step, played, callsOf}
@@ -64,7 +64,7 @@ open-agrees o = by (eqb n 0) refl
         let p4 = passed 4 (closedRefused (o .closed)) _ (p1 .1) refl in
         let p11 = passed 11 (badFirst (closedDays (o .closed)) (o .first)) _ (p4 .1) refl in
         let good = first-good (listed (closedDays (o .closed))) (o .first) (p11 .0) in
-        fresh-agrees o (o .first) (o .closed) (o .terms) (fresh-valid (o .first) (o .closed) (o .terms) (closed-short (o .closed) (p4 .0)) (good .0) (good .1)) (rw e) (rw e) (rw e)
+        fresh-agrees o (o .first) (o .closed) (o .terms) (fresh-valid (o .first) (o .closed) (o .terms) (p4 .0) (good .0) (good .1)) (rw e) (rw e) (rw e)
     by false e = fresh-agrees o (day 2) [] 0 refused-valid (rw e) (rw e) (rw e)
 
 pub begun-known : (o : Opening) → Known (begun o)

@@ -52,7 +52,7 @@ returns-4 : tie.Need-returns-4
 unfolding opened openRefusals
 returns-4 c = let g = rw (c .before .before .before .listed .ensures) at (sym (c .before .before .is-bad-first .ensures) ∙ c .before .if3 .left) in let h = first-good _ _ g in let q = c .fresh .ensures ∙ ap (λ (k : ClosedDays). freshBook (c .before .before .before .before .before .before .before .before .args .first) k (c .before .before .before .before .before .before .before .before .args .terms)) (c .before .before .before .listed .ensures) in (
   ap (opened-with 0) q ∙ done-by _ _ openRefused (pass 1 _ (le-ltb _ _ (c .before .before .before .before .before .before .if1 .left)) ∙ pass 4 _ (sym (c .before .before .before .before .before .refuses-closed .ensures) ∙ c .before .before .before .before .if2 .left) ∙ pass 11 _ g ∙ all-passed),
-  rw q (fresh-valid _ _ (c .before .before .before .before .before .before .before .before .args .terms) (closed-short _ (sym (c .before .before .before .before .before .refuses-closed .ensures) ∙ c .before .before .before .before .if2 .left)) (h .0) (h .1)),
+  rw q (fresh-valid _ _ (c .before .before .before .before .before .before .before .before .args .terms) (sym (c .before .before .before .before .before .refuses-closed .ensures) ∙ c .before .before .before .before .if2 .left) (h .0) (h .1)),
 )
 
 pub open-spec : {M : Type 1} → statement M
