@@ -16,7 +16,7 @@ use Rattle.lines.specs.Input.{usedUp, between, upToLineFeed, ahead, last
 use Rattle.lines.specs.declared.Feed.{Feed}
 
 -- nothing lies from a place up to one that is not behind it
-between-none : (part : List ℕ) (at to : ℕ) → to ≤ at → between at to part ≡ []
+pub between-none : (part : List ℕ) (at to : ℕ) → to ≤ at → between at to part ≡ []
 between-none part at to h = let e : to - at ≡ 0 = omega arith in rw e
 
 -- the first element from a place up to one behind it, and the others
@@ -63,7 +63,7 @@ up-taken (b ∷ bs) =
     (λ e. ap (λ (l : List ℕ). b ∷ l) (up-taken bs))
 
 -- what has no place in a list is not stored in it
-sets-cut : (l : List ℕ) (i n : ℕ) (vs : List ℕ) → length l ≤ i + n → sets l i (take n vs) ≡ sets l i vs
+pub sets-cut : (l : List ℕ) (i n : ℕ) (vs : List ℕ) → length l ≤ i + n → sets l i (take n vs) ≡ sets l i vs
 sets-cut l i zero vs h = sym (sets-past l i vs (omega arith))
 sets-cut l i (suc n) [] h = refl
 sets-cut l i (suc n) (v ∷ vs) h = sets-cut (set l i v) (suc i) n vs (omega (arith, length-set l i v))

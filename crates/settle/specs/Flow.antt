@@ -25,7 +25,7 @@ fedWith to f = pick (usedUp (f .feed)) (record { feed = filledTo to (f .feed); e
 -- what is to be taken next; the bytes that are not used up stay as they are
 pub record FedOn (f : Flow) (part after : List ℕ) (r : Flow) : Type 0 where
   pub fed : r ≡ fedWith (r .feed .to) f
-  pub within : r .feed .to ≤ length part
+  pub within : r .feed .to ≤ length after
   pub kept : usedUp (f .feed) ≡ false → after ≡ part
 
 -- bytes of the line under way were taken
