@@ -1,6 +1,6 @@
 #!/usr/bin/env python3
-"""closes.py BOOKS: a journal of Closes at their heaviest. Each book has 64 obligations, late from the first day to the last, and
-on each of its five buy-in days 64 offers, one for each obligation."""
+"""closes.py BOOKS: a journal of Closes at their heaviest. Each book has 64 obligations, late from the first day to the
+last, and on each of its five buy-in days 64 offers, one for each obligation."""
 import sys
 
 members = 32

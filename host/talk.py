@@ -18,7 +18,9 @@ class Book:
         self.process.stdin.write(" ".join(str(word) for word in words) + "\n")
         self.process.stdin.flush()
         line = self.process.stdout.readline()
-        if not line or line.startswith("?"):
+        if not line:
+            raise EOFError("settle has ended")
+        if line.startswith("?"):
             raise ValueError(f"settle took this for no call: {words}")
         return [int(number) for number in line.split()]
 

@@ -50,7 +50,8 @@ clearingWithin cs d (suc k) = clearingWithin cs d k + pick (clearing cs (day (d 
 unfoldable pub ageAt : List Day → Day → Day → ClearingDays
 ageAt cs j today = clearingDays (clearingWithin cs (j .0) (today .0 - j .0))
 
--- no rule, but how the age is worked out: the weekdays up to day n, with remainders 2 to 6 by 7
+-- no rule, but how the age is worked out: the weekdays up to and with day n, with remainders 2 to
+-- 6 by 7
 unfoldable pub weekdaysTo : ℕ → ℕ
 weekdaysTo n = 5 * (n / 7) + (n % 7 - 1)
 

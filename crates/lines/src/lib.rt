@@ -13,14 +13,14 @@ pub struct Feed {
     pub to: usize,
     // How many bytes of the line under way are held.
     pub held: usize,
-    // How many lines ended so far.
+    // How many lines ended so far; the end of the input counts as one.
     pub ended: u64,
 }
 
 // What was taken from the input.
 pub struct Taken {
     pub feed: Feed,
-    // Whether the line under way has ended, and how many bytes it has.
+    // Whether the line under way has ended, and how many bytes of it are held.
     pub ends: bool,
     pub size: usize,
     // Whether the input is over.
@@ -52,7 +52,8 @@ fn line_end(part: &[u8], from: usize, to: usize) -> usize
     at
 }
 
-// Bytes are added to the line under way. What the line has no place for is let go: such a line is no call.
+// Bytes are added to the line under way. What the line has no place for is let go: such a line is
+// no call, or a comment.
 fn hold(line: &mut [u8], held: usize, part: &[u8], from: usize, to: usize) -> usize
     requires { ⌜ (held ≤ length (now line)) × (from ≤ to) × (to ≤ length (now part)) ⌝ }
     ensures { λ r. ⌜ r ≡ min (length (now (line .entry))) (held + (to - from)) ⌝ }

@@ -14,19 +14,19 @@ use Rattle.journal.proofs.Theorem.{demand-3}
 use Rattle.settle.specs.declared.calls.Asked.{Asked}
 use Rattle.settle.specs.declared.calls.Played.{Played}
 use Rattle.settle.specs.Calls.{listIn, lentTo}
-use Rattle.settle.specs.Turns.{Gives, Held, Reached}
+use Rattle.settle.specs.Turns.{Gives, Held, begins, Reached}
 use Rattle.settle.specs.Turns.Gives.{opening, entering, withdrawing, cancelling, delivering, offering, closing, paying, showing, balancing, looking, passing, objecting}
 use Rattle.settle.specs.Turns.Reached.{start, turn}
 
 -- an Open and a list of calls lead to the book
-pub record Leads (b : Book) : Type 0 where
+record Leads (b : Book) : Type 0 where
   pub opened : Opening
   pub calls : List Call
   pub there : b ≡ played opened calls .book
 
 -- an Open does
-begins : (o : Opening) → Leads (played o [] .book)
-begins o = record { opened = o; calls = []; there = refl }
+opens-book : (o : Opening) → Leads (played o [] .book)
+opens-book o = record { opened = o; calls = []; there = refl }
 
 -- one call more does
 goes-on : {b : Book} (c : Call) → Leads b → Leads (outcome b c .book)
@@ -40,7 +40,7 @@ goes-on c l = record {
 line-leads : {b : Book} {a : Asked} {ns ws : List ℕ} {l : Line} {p : Played} {after : List ℕ}
     → Gives b a ns ws l p after → Leads b → Leads (p .book)
 line-leads {b} {a} {ns} {ws} (opening n) j =
-    begins (record { first = day (a .first); closed = listIn a ns; terms = a .second })
+    opens-book (record { first = day (a .first); closed = listIn a ns; terms = a .second })
 line-leads {b} {a} (entering n) j =
     goes-on (enter (a .first) (a .second) (a .third) (a .fourth) (a .fifth) (day (a .sixth))) j
 line-leads {b} {a} (withdrawing n) j = goes-on (withdraw (a .first) (a .second)) j
@@ -57,13 +57,19 @@ line-leads (looking n answer h) j = j
 line-leads passing j = j
 line-leads objecting j = j
 
--- the book that the program holds, after any turns
-pub held-leads : {h : Held} → Reached h → Leads (h .book)
-held-leads (start part line numbers words out) = begins (record { first = day 0; closed = []; terms = 2 })
-held-leads (turn r t) = line-leads (t .gives) (held-leads r)
+-- after any turns
+leads-on : {first h : Held} {n : ℕ} → Leads (first .book) → Reached first n h → Leads (h .book)
+leads-on l start = l
+leads-on l (turn r t) = line-leads (t .gives) (leads-on l r)
 
--- so it is the book of a journal of which all is promised
-pub held-promised : {h : Held} → Reached h → (s : Run) × Promise s × (h .book ≡ s .book)
+-- the book that the program holds
+held-leads : {part line numbers words out : List ℕ} {h : Held} {n : ℕ}
+    → Reached (begins part line numbers words out) n h → Leads (h .book)
+held-leads r = leads-on (opens-book (record { first = day 0; closed = []; terms = 2 })) r
+
+-- It is the book of a journal of which all is promised.
+pub held-promised : {part line numbers words out : List ℕ} {h : Held} {n : ℕ}
+    → Reached (begins part line numbers words out) n h → (s : Run) × Promise s × (h .book ≡ s .book)
 held-promised r =
     let l = held-leads r in
     let s = played (l .opened) (l .calls) in

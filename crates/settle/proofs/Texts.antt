@@ -17,14 +17,15 @@ use Rattle.reading.specs.Lines.{mostBytes, meaningOf}
 use Rattle.reading.proofs.Long.{meaning-cut}
 use Rattle.settle.specs.declared.flow.Flow.{Flow}
 use Rattle.settle.specs.Flow.{FedOn}
-use Rattle.settle.specs.Turns.{Held, Turn, Reached}
+use Rattle.settle.specs.Turns.{Held, Turn, begins, Reached}
 use Rattle.settle.specs.Turns.Reached.{start, turn}
 use Rattle.settle.specs.Read.{addedBy, readIn, playedIn, Follows}
 use Rattle.settle.proofs.Flows.{flowAt}
 use Rattle.settle.proofs.Turning.{fed-within, took-within}
 
 -- nothing is read yet
-started : (part line numbers words out : List ℕ) → Follows (start part line numbers words out)
+started : (part line numbers words out : List ℕ)
+    → Follows {first = begins part line numbers words out} {h = begins part line numbers words out} {n = 0} start
 unfolding readIn playedIn withBytes
 started part line numbers words out = record { held = omega arith; taken = []; text = refl; cuts = ap (λ (xs : List ℕ). record { ended = []; rest = xs }) (sym (take-nil (length line))) }
 
@@ -48,7 +49,7 @@ fed-unread f r part after fed = by (usedUp (f .feed)) refl (fed .fed)
         ∙ sym (ap (λ (x : Flow). unread (x .feed) after) e)
 
 -- a turn
-module _ {h after : Held} (r : Reached h) (t : Turn h after) (follows : Follows r) where
+module _ {first h after : Held} {n : ℕ} (r : Reached first n h) (t : Turn h after) (follows : Follows r) where
   abbrev fed : Feed
   fed = t .fed .feed
 
@@ -116,8 +117,9 @@ module _ {h after : Held} (r : Reached h) (t : Turn h after) (follows : Follows 
   }
 
 -- whatever was read, and in whatever parts
-pub reached-follows : {h : Held} (r : Reached h) → Follows r
-reached-follows (start part line numbers words out) = started part line numbers words out
+pub reached-follows : {part line numbers words out : List ℕ} {h : Held} {n : ℕ}
+    (r : Reached (begins part line numbers words out) n h) → Follows r
+reached-follows {part} {line} {numbers} {words} {out} start = started part line numbers words out
 reached-follows (turn r t) = turn-follows r t (reached-follows r)
 
 -- cut lines say what the whole ones say
@@ -126,8 +128,9 @@ meant n h [] = refl
 meant n h (l ∷ ls) = ap₂ _∷_ (meaning-cut n l h) (meant n h ls)
 
 -- With more places than a call's line has bytes, the lines that were played say what the lines of the text say.
-pub played-means : {h : Held} (r : Reached h) → mostBytes < length (h .line)
+pub played-means : {part line numbers words out : List ℕ} {h : Held} {n : ℕ}
+    (r : Reached (begins part line numbers words out) n h) → mostBytes < length (h .line)
     → map meaningOf (playedIn r) ≡ map meaningOf (withBytes uncut (reached-follows r .taken) .ended)
-played-means {h} r long =
+played-means {h = h} r long =
     let f = reached-follows r in
     ap (λ (c : Cut). map meaningOf (c .ended)) (f .cuts) ∙ meant (length (h .line)) long (withBytes uncut (f .taken) .ended)

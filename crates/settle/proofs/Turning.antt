@@ -1,8 +1,9 @@
 -- From turn to turn: what holds between two turns, and that a turn keeps it.
-use Prim.Native.Nat.{ℕ, _-_, _≤_, _<_}
+use Prim.Native.Nat.{ℕ, suc, _+_, _-_, _≤_, _<_}
 use native.Mathlib.Omega.{arith}
 use mathlib.Core.Path.{_≡_, refl, sym, subst}
-use mathlib.Core.Bool.{Bool}
+use mathlib.Core.Bool.{Bool, true, false}
+use mathlib.Core.Logic.{_⊎_, inl, inr}
 use mathlib.Core.List.{List}
 use lib.ListN.{length}
 use Rattle.basics.specs.Choice.{pick}
@@ -20,19 +21,45 @@ use Rattle.settle.specs.declared.calls.Asked.{Asked}
 use Rattle.settle.specs.declared.calls.Played.{Played}
 use Rattle.settle.specs.declared.flow.Flow.{Flow}
 use Rattle.settle.specs.Asked.{asks, noted}
+use Rattle.settle.specs.Calls.{atFirst}
 use Rattle.settle.specs.Flow.{FedOn, TakenOn, ToldOn}
-use Rattle.settle.specs.Turns.{Buffers, Gives, Held, Reached}
-use Rattle.settle.specs.Turns.Reached.{turn}
+use Rattle.settle.specs.Turns.{Buffers, Gives, Held, begins, Reached, isOver, Plays}
+use Rattle.settle.specs.Turns.Reached.{start, turn}
 use Rattle.settle.proofs.Flows.{room-fits}
 
--- what holds between two turns: it was reached, the book is valid, and all places are within the buffers
-pub record Stands (h : Held) : Type 0 where
-  pub reached : Reached h
+-- what holds between two turns, with so many more to come at most: some turns led there, the last of them with the input
+-- over or as many as were not to come; the book is valid, and all places are within the buffers
+pub record Stands (first : Held) (left : ℕ) (h : Held) : Type 0 where
+  pub turns : ℕ
+  pub reached : Reached first turns h
+  pub clock : ((isOver reached ≡ true) × (left ≡ 0)) ⊎ (left + turns ≡ 18_446_744_073_709_551_615)
   pub valid : Valid (h .book)
   pub read : h .flow .feed .to ≤ length (h .part)
   pub held : h .flow .feed .held ≤ length (h .line)
   pub within : h .flow .end ≤ length (h .out)
   pub room : Buffers (h .line) (h .numbers) (h .words) (h .out)
+
+-- before the first turn it holds
+pub standing : (part line numbers words out : List ℕ) → Valid (atFirst .book) → Buffers line numbers words out
+    → Stands (begins part line numbers words out) 18_446_744_073_709_551_615 (begins part line numbers words out)
+standing part line numbers words out v b = record {
+  turns = 0;
+  reached = start;
+  clock = inr (omega arith);
+  valid = v;
+  read = omega arith;
+  held = omega arith;
+  within = omega arith;
+  room = b;
+}
+
+-- with no turn to come the journal was played
+pub stopped : {first h : Held} {left : ℕ} → left ≤ 0 → Stands first left h → Plays first h
+stopped none s = record {
+  turns = s .turns;
+  reached = s .reached;
+  ends = elim (s .clock) [ inl x ↦ inl (x .0) | inr e ↦ inr (omega (arith, e, none)) ];
+}
 
 -- what a line gives, with a valid book and an answer that can be written
 pub record Given (b : Book) (a : Asked) (ns ws : List ℕ) (p : Played) (after : List ℕ) : Type 0 where
@@ -72,8 +99,16 @@ pub took-within : {f : Flow} {part line after : List ℕ} {t : Taken} → f .fee
     → TakenOn f part line after t → Within (f .feed) (length line) t
 took-within {f} {part} {line} h took = rw (took .took) (taken-within (f .feed) part (length line) h)
 
+-- a turn leaves none where the input is over, else one fewer
+ticked : {seen : Bool} (over : Bool) (left turns : ℕ) → 0 < left
+    → ((seen ≡ true) × (left ≡ 0)) ⊎ (left + turns ≡ 18_446_744_073_709_551_615)
+    → ((over ≡ true) × (pick over 0 (left - 1) ≡ 0)) ⊎ (pick over 0 (left - 1) + suc turns ≡ 18_446_744_073_709_551_615)
+ticked true left turns more c = inl (refl, refl)
+ticked false left turns more (inl x) = absurd (omega (arith, x .1))
+ticked false left turns more (inr e) = inr (omega (arith, e))
+
 -- a turn keeps what holds
-pub turned : {h after : Held} {fed : Flow} {taken : Taken} {asked : Asked} (answer : Answer) → Stands h
+pub turned : {first h after : Held} {left : ℕ} {fed : Flow} {taken : Taken} {asked : Asked} (answer : Answer) → 0 < left → Stands first left h
     → FedOn (h .flow) (h .part) (after .part) fed
     → TakenOn fed (after .part) (h .line) (after .line) taken
     → asked ≡ asks taken (after .line) (h .numbers)
@@ -82,14 +117,17 @@ pub turned : {h after : Held} {fed : Flow} {taken : Taken} {asked : Asked} (answ
     → ToldOn fed taken (answerText answer (taken .feed .ended) (after .words)) (h .out) (after .out) (after .flow)
     → length (after .part) ≡ length (h .part) → length (after .line) ≡ length (h .line)
     → length (after .numbers) ≡ length (h .numbers) → length (after .out) ≡ length (h .out)
-    → Stands after
-turned {h} {after} {fed} {taken} {asked} answer s feeds takes asking noting given tells part line numbers out =
+    → Stands first (pick (taken .over) 0 (left - 1)) after
+unfolding isOver
+turned {first} {h} {after} {left} {fed} {taken} {asked} answer more s feeds takes asking noting given tells part line numbers out =
     let on = fed-within feeds in
     let took = took-within (omega (arith, on .0, s .held)) takes in
     let next = tells .next in
     let most = answer-most answer (taken .feed .ended) (after .words) (given .tells) in
     let room = room-fits (fed .end) (length (h .out)) (s .room .writable) in
     record {
+      turns = suc (s .turns);
+      clock = ticked (taken .over) left (s .turns) more (s .clock);
       reached = turn (s .reached) (record {
         fed = fed;
         feeds = feeds;

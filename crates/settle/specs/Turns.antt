@@ -1,7 +1,9 @@
 -- A journal, turn by turn.
-use Prim.Native.Nat.{ℕ, _≤_, _<_}
+use Prim.Native.Nat.{ℕ, suc, _≤_, _<_}
 use mathlib.Core.Path.{_≡_}
+use mathlib.Core.Bool.{Bool, true, false}
 use mathlib.Core.List.{List}
+use mathlib.Core.Logic.{_⊎_}
 use lib.ListN.{length}
 use Rattle.book.specs.declared.Book.{Book}
 use Rattle.lines.specs.declared.Taken.{Taken}
@@ -69,30 +71,37 @@ pub record Turn (h after : Held) : Type 0 where
   pub gives : Gives (h .book) asked (after .numbers) (h .words) (asked .line) (played (after .book) answer) (after .words)
   pub tells : ToldOn fed taken (answerText answer (taken .feed .ended) (after .words)) (h .out) (after .out) (after .flow)
 
--- what can be held after some turns, from any buffers
-pub data Reached : Held → Type 0 where
-  start : (part line numbers words out : List ℕ)
-      → Reached (record {
-        book = atFirst .book;
-        flow = atStart;
-        part = part;
-        line = line;
-        numbers = numbers;
-        words = words;
-        out = out;
-      })
-  turn : {h after : Held} → Reached h → Turn h after → Reached after
+-- what is held before the first turn, with buffers as they are then
+abbrev pub begins : List ℕ → List ℕ → List ℕ → List ℕ → List ℕ → Held
+begins part line numbers words out = record {
+  book = atFirst .book;
+  flow = atStart;
+  part = part;
+  line = line;
+  numbers = numbers;
+  words = words;
+  out = out;
+}
 
--- The journal was played turn by turn, and this is what the buffers hold at last.
-pub record Plays (part line numbers words out : List ℕ) : Type 0 where
+-- what is held after so many turns
+pub data Reached (first : Held) : ℕ → Held → Type 0 where
+  start : Reached first 0 first
+  turn : {n : ℕ} {h after : Held} → Reached first n h → Turn h after → Reached first (suc n) after
+
+-- whether the input was over in the last turn
+unfoldable pub isOver : {first h : Held} {n : ℕ} → Reached first n h → Bool
+isOver start = false
+isOver (turn r t) = t .taken .over
+
+-- The journal was played turn by turn until its input was over, or for as many turns as a number of 64 bits counts.
+pub record Plays (first last : Held) : Type 0 where
+  pub turns : ℕ
+  pub reached : Reached first turns last
+  pub ends : (isOver reached ≡ true) ⊎ (turns ≡ 18_446_744_073_709_551_615)
+
+-- The same of buffers: what they hold at entry, and at last.
+pub record PlaysIn (first : Held) (part line numbers words out : List ℕ) : Type 0 where
   pub book : Book
   pub flow : Flow
-  pub reached : Reached (record {
-    book = book;
-    flow = flow;
-    part = part;
-    line = line;
-    numbers = numbers;
-    words = words;
-    out = out;
-  })
+  pub plays : Plays first
+      (record { book = book; flow = flow; part = part; line = line; numbers = numbers; words = words; out = out })

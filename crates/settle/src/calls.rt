@@ -16,8 +16,9 @@ ghost use Rattle.settle.specs.Asked.{nothingAsked, askedWith, askedLent,
 ghost use Rattle.settle.specs.Calls.{atFirst, opens, enters, withdraws, cancels, delivers, offers, closes};
 ghost use Rattle.settle.specs.Calls.{closeWordsOf, months, monthWordsOf, shows, balances, LooksAs};
 
-// What a line asks. A call has its first six numbers, as far as it has them; the places of its list among its numbers;
-// and how many words it is lent, with what they are filled.
+// What a line asks. A call has what stands in the first six places for numbers, of which it uses its own (the others are
+// left from earlier lines); the places of its list among its numbers, if it is an open or a month; and how many words it
+// is lent, with what they are filled.
 pub struct Asked {
     pub line: Line,
     pub first: u64,

@@ -1,5 +1,6 @@
 // Bytes in and out: where the input and the output stand, from line to line.
 use answers::Answer;
+use libc::STDERR_FILENO;
 use libc::STDIN_FILENO;
 use libc::STDOUT_FILENO;
 use lines::Feed;
@@ -28,13 +29,30 @@ pub fn start() -> Flow
     }
 }
 
-// The answers so far are written, and the next one goes to the front.
+// Says on standard error what failed.
+fn report(fails: bool, what: &[u8]) {
+    if fails {
+        io::write_all(STDERR_FILENO, what);
+    }
+}
+
+// The answers so far are written, and the next one goes to the front. What cannot be written is lost.
 pub fn write_out(out: &[u8], end: usize) -> usize
     requires { ⌜ end ≤ length (now out) ⌝ }
     ensures { λ r. ⌜ r ≡ 0 ⌝ }
 {
-    io::write_all(STDOUT_FILENO, &out[..end]);
+    let written = io::write_all(STDOUT_FILENO, &out[..end]);
+    report(written == false, b"settle: answers could not be written\n");
     0
+}
+
+// More of the input: how many bytes of it were read, none if it is over or cannot be read.
+fn read_on(part: &mut [u8]) -> usize
+    ensures { λ r. ⌜ r ≤ length (now (part .exit)) ⌝ }
+{
+    let got = libc::read(STDIN_FILENO, part);
+    report(got < 0, b"settle: the journal could not be read on\n");
+    io::count(got, part)
 }
 
 // What is to be taken next: if all that was read is used up, the answers so far are written and more is read. There is
@@ -46,10 +64,8 @@ pub fn feed_on(flow: Flow, part: &mut [u8], out: &[u8]) -> Flow
     let feed = flow.feed;
     if feed.is_used_up() {
         let end = write_out(out, flow.end);
-        let got = libc::read(STDIN_FILENO, part);
-        let to = io::count(got, part);
         return Flow {
-            feed: feed.filled(to),
+            feed: feed.filled(read_on(part)),
             end: end,
         };
     }

@@ -7,7 +7,7 @@ ghost use mathlib.Core.Path.{_≡_};
 ghost use Prim.Native.Nat.{_<_, _-_};
 ghost use lib.ListN.{length};
 ghost use Rattle.basics.specs.Choice.{pick};
-ghost use Rattle.settle.specs.Turns.{Buffers, Plays};
+ghost use Rattle.settle.specs.Turns.{Buffers, begins, PlaysIn};
 
 mod calls;
 mod flow;
@@ -34,7 +34,8 @@ fn settle_all(
     out: &mut [u8],
 )
     requires { ⌜ Buffers (now line) (now numbers) (now words) (now out) ⌝ }
-    ensures { λ _. ⌜ Plays (now (part .exit)) (now (line .exit)) (now (numbers .exit)) (now (words .exit)) (now (out .exit)) ⌝ }
+    ensures { λ _. ⌜ PlaysIn (begins (now (part .entry)) (now (line .entry)) (now (numbers .entry)) (now (words .entry)) (now (out .entry)))
+        (now (part .exit)) (now (line .exit)) (now (numbers .exit)) (now (words .exit)) (now (out .exit)) ⌝ }
 {
     let mut turns = u64::MAX;
     let mut flow = flow::start();
@@ -88,7 +89,7 @@ fn word_places() -> [u64; 4096]
     [0; 4096]
 }
 
-// Places for the answers: the longest takes 90,212 bytes.
+// Places for the answers, none of which takes more than 90,212 bytes.
 fn answer_places() -> [u8; 131072]
     ensures { λ r. ⌜ 131072 ≡ length r ⌝ }
 {

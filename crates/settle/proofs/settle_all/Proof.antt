@@ -14,10 +14,9 @@ use Rattle.answers.proofs.Tells.{nothing-tells, no-call-tells, numbers-tells, s
 use Rattle.settle.specs.declared.flow.Flow.{Flow}
 use Rattle.settle.specs.declared.calls.Played.{Played}
 use Rattle.settle.specs.Calls.{played, lentTo}
-use Rattle.settle.specs.Turns.{Held}
+use Rattle.settle.specs.Turns.{Held, begins}
 use Rattle.settle.specs.Turns.Gives.{opening, entering, withdrawing, cancelling, delivering, offering, closing, paying, showing, balancing, looking, passing, objecting}
-use Rattle.settle.specs.Turns.Reached.{start}
-use Rattle.settle.proofs.Turning.{Stands, Given, given-by, turned, fewer, fed-within, took-within}
+use Rattle.settle.proofs.Turning.{Stands, standing, stopped, Given, given-by, turned, fewer, fed-within, took-within}
 use Rattle.settle.proofs.settle_all.Statement.{statement}
 use Rattle.settle.proofs.settle_all.Tie as tie
 
@@ -28,7 +27,7 @@ held book flow part line numbers words out =
 
 abbrev Inv-loop : tie.InvT-loop
 Inv-loop part₀ line₀ numbers₀ words₀ out₀ turns₀ flow₀ played₀ part line numbers words out turns flow played =
-    (Stands (held (played .book) flow part line numbers words out))
+    (Stands (begins part₀ line₀ numbers₀ words₀ out₀) turns (held (played .book) flow part line numbers words out))
     × (length part ≡ length part₀) × (length line ≡ length line₀) × (length numbers ≡ length numbers₀)
     × (length words ≡ length words₀) × (length out ≡ length out₀)
 
@@ -42,22 +41,10 @@ before-all-requires : tie.Need-before-all-requires Inv-loop μ-loop
 before-all-requires c κs = search needs
 
 loop-holds : tie.Need-loop-holds Inv-loop μ-loop
-loop-holds c = let book = ap (λ (p : Played). p .book) (c .before-all .ensures .0) in
-    let flow = c .before .start .ensures in (
-      record {
-        reached = rw (book, flow) (start _ _ _ _ _);
-        valid = c .before-all .ensures .1;
-        read = rw flow (omega arith);
-        held = rw flow (omega arith);
-        within = rw flow (omega arith);
-        room = c .before .before .before .before .before .before .before .pre;
-      },
-      refl,
-      refl,
-      refl,
-      refl,
-      refl,
-    )
+loop-holds c = let s = c .before .before .before .before .before .before .before in
+    let book = ap (λ (p : Played). p .book) (c .before-all .ensures .0) in
+    let first = standing (s .args .part .now) (s .args .line .now) (s .args .numbers .now) (s .args .words .now) (s .args .out .now) (rw book at (c .before-all .ensures .1)) (s .pre) in
+    (rw (book, c .before .start .ensures) first, refl, refl, refl, refl, refl)
 
 feed-on-requires : tie.Need-feed-on-requires Inv-loop μ-loop
 feed-on-requires c κs = let s = c .before .before .before .loop .inv .0 in (s .read, s .within)
@@ -216,7 +203,8 @@ loop-again c = let i = c .before .before .before .before .before .before .before
     let fed = c .before .before .before .before .before .before .before .before .before .before .before .before .before .before .before .before .before .before .before .feed-on in let took = c .before .before .before .before .before .before .before .before .before .before .before .before .before .before .take in let asked = c .before .before .before .before .before .before .before .before .before .ask in let told = c .before .before .before .tell in
     let part = fed .kept .1 .0 in let line = took .kept .1 .1 .0 in let numbers = asked .kept .1 .1 .0 in
     let out = told .kept .1 .1 .1 .1 .0 in (
-      turned (c .before .before .before .before .before .before .match .played .answer) (i .0) (fed .ensures) (took .ensures) (asked .ensures .0) (asked .ensures .1 .0) g (told .ensures) part line numbers out,
+      rw (c .turns-left .ensures)
+          (turned (c .before .before .before .before .before .before .match .played .answer) (c .before .before .before .before .before .before .before .before .before .before .before .before .before .before .before .before .before .before .before .before .before .before .loop-test .taken) (i .0) (fed .ensures) (took .ensures) (asked .ensures .0) (asked .ensures .1 .0) g (told .ensures) part line numbers out),
       part ∙ i .1,
       line ∙ i .2,
       numbers ∙ i .3,
@@ -243,7 +231,11 @@ same-length-5 : tie.Need-same-length-5 Inv-loop μ-loop
 same-length-5 c = c .before .before .before .loop .inv .5
 
 returns : tie.Need-returns Inv-loop μ-loop
-returns c = record { book = c .before .before .before .loop .played .book; flow = c .before .before .before .loop .flow; reached = c .before .before .before .loop .inv .0 .reached }
+returns c = record {
+  book = c .before .before .before .loop .played .book;
+  flow = c .before .before .before .loop .flow;
+  plays = stopped (omega (arith, c .before .before .loop-test .left)) (c .before .before .before .loop .inv .0);
+}
 
 pub settle-all-spec : {M : Type 1} → statement M
 settle-all-spec =
