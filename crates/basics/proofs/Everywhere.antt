@@ -36,7 +36,7 @@ pub sorted-map : {A : Type 0} {R S : A → A → Type 0} (f : (x y : A) → R x 
 sorted-map f empty = empty
 sorted-map f (ahead {x = x} h s) = ahead (every-map (f x) h) (sorted-map f s)
 
--- one element more
+-- all elements of two lists
 pub every-append : {A : Type 0} {P : A → Type 0} {xs ys : List A} → Every P xs → Every P ys → Every P (xs ++ ys)
 every-append nobody qs = qs
 every-append (also p ps) qs = also p (every-append ps qs)

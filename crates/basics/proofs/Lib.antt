@@ -2,6 +2,7 @@
 pub mod Cases
 pub mod Counts
 pub mod Everywhere
+pub mod Fronts
 pub mod Places
 pub mod Stores
 pub mod Sums

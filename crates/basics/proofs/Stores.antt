@@ -1,10 +1,10 @@
 -- Stores in a list, one after another.
-use Prim.Native.Nat.{ℕ, suc, _+_, _≤_}
+use Prim.Native.Nat.{ℕ, zero, suc, _+_, _≤_}
 use native.Mathlib.Nat.{add-zero, zero-add, add-suc, suc-add}
 use native.Mathlib.Omega.{arith}
 use mathlib.Core.Path.{_≡_, refl, sym, ap, _∙_}
 use mathlib.Core.List.{List, [], _∷_, _++_}
-use lib.ListN.{length, set, take, drop}
+use lib.ListN.{length, set, take, drop, length-set}
 use lib.Seq.{sets, sets-eq, set-out, take-append-seam}
 
 -- stores behind stores
@@ -19,6 +19,12 @@ sets-append l i (x ∷ xs) ys =
 pub sets-past : {A : Type 0} (l : List A) (i : ℕ) (vs : List A) → length l ≤ i → sets l i vs ≡ l
 sets-past l i [] h = refl
 sets-past l i (v ∷ vs) h = rw (set-out l i v h) (sets-past l (suc i) vs (omega arith))
+
+-- what has no place in a list is not stored in it
+pub sets-cut : {A : Type 0} (l : List A) (i n : ℕ) (vs : List A) → length l ≤ i + n → sets l i (take n vs) ≡ sets l i vs
+sets-cut l i zero vs h = sym (sets-past l i vs (omega arith))
+sets-cut l i (suc n) [] h = refl
+sets-cut l i (suc n) (v ∷ vs) h = sets-cut (set l i v) (suc i) n vs (omega (arith, length-set l i v))
 
 -- what is stored in front is read back
 pub sets-front : {A : Type 0} (l vs : List A) → length vs ≤ length l → take (length vs) (sets l 0 vs) ≡ vs

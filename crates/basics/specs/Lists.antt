@@ -2,7 +2,8 @@
 use Prim.Native.Nat.{ℕ, zero, suc, _+_, _-_}
 use mathlib.Core.Bool.{Bool, true, false}
 use mathlib.Core.List.{List, [], _∷_, _++_}
-use lib.ListN.{length, replicate}
+use lib.Dec.{eqb}
+use lib.ListN.{length, take, drop, replicate}
 use Rattle.basics.specs.Choice.{pick}
 
 -- the sum of a number of each element
@@ -41,3 +42,12 @@ pub data Sorted {A : Type 0} (R : A → A → Type 0) : List A → Type 0 where
 -- a list that fills the front of n places; each place behind it holds z
 abbrev pub padded : {A : Type 0} → ℕ → A → List A → List A
 padded n z xs = xs ++ replicate (n - length xs) z
+
+-- the elements from one place up to another
+abbrev pub between : ℕ → ℕ → List ℕ → List ℕ
+between from to xs = take (to - from) (drop from xs)
+
+-- the elements up to the first that is x
+unfoldable pub upTo : ℕ → List ℕ → List ℕ
+upTo x [] = []
+upTo x (y ∷ ys) = pick (eqb y x) [] (y ∷ upTo x ys)

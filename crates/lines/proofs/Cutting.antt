@@ -1,21 +1,23 @@
 -- Whatever parts a text is read in, the lines that are taken are the lines of the text.
-use Prim.Native.Nat.{ℕ, zero, suc, _+_, _-_, _≤_, _<_, min}
+use Prim.Native.Nat.{ℕ, suc, _+_, _-_, _≤_, _<_, min}
 use native.Mathlib.Omega.{arith}
 use mathlib.Core.Path.{_≡_, refl, sym, ap, ap₂, _∙_}
 use mathlib.Core.Bool.{Bool, true, false}
 use mathlib.Core.List.{List, [], _∷_, _++_, map, append-assoc, append-nil}
 use lib.Dec.{eqb, ltb}
 use lib.ListN.{length, take, drop, length-append, length-take, length-drop}
-use lib.Seq.{sets, sets-eq, take-all, length-take-le, take-append-add, take-at, take-nil, drop-drop}
-use borrow.Author.Tests.{leb-true, ltb-true, ltb-false, eqb-true}
+use lib.Seq.{sets, sets-eq, take-all, length-take-le, take-append-add, take-at, take-nil}
+use borrow.Author.Tests.{leb-true, ltb-true, ltb-false}
 use Rattle.basics.specs.Choice.{pick}
+use Rattle.basics.specs.Lists.{between, upTo}
 use Rattle.basics.proofs.Cases.{pick-case}
+use Rattle.basics.proofs.Fronts.{take-again, between-none, between-behind, up-all, up-split}
+use Rattle.basics.proofs.Stores.{sets-cut}
 use Rattle.writing.specs.Answers.{lineFeed}
 use Rattle.lines.specs.declared.Feed.{Feed}
 use Rattle.lines.specs.declared.Taken.{Taken}
-use Rattle.lines.specs.Input.{between, usedUp, upToLineFeed, ahead, lastOf, endedAt, goesOn, heldWith, takenOf}
+use Rattle.lines.specs.Input.{usedUp, upToLineFeed, ahead, lastOf, endedAt, goesOn, heldWith, takenOf}
 use Rattle.lines.specs.Text.{Cut, withByte, withBytes, cutTo, unread, lastFeed, takenBytes, cutWith}
-use Rattle.lines.proofs.Input.{between-none, sets-cut}
 
 -- a text so far, by its lines and the line under way
 abbrev cutAs : List (List ℕ) → List ℕ → Cut
@@ -44,12 +46,6 @@ held-append : (n : ℕ) (c : Cut) (xs ys : List ℕ) → heldBytes n c (xs ++ ys
 unfolding heldBytes
 held-append n c [] ys = refl
 held-append n c (x ∷ xs) ys = held-append n (heldByte n c x) xs ys
-
--- what is cut already is not cut otherwise with more behind it
-take-again : (n : ℕ) (xs ys : List ℕ) → take n (take n xs ++ ys) ≡ take n (xs ++ ys)
-take-again zero xs ys = refl
-take-again (suc n) [] ys = refl
-take-again (suc n) (x ∷ xs) ys = ap (λ (l : List ℕ). x ∷ l) (take-again n xs ys)
 
 -- what is held is the text, cut
 held-cuts : (n : ℕ) (c : Cut) (bs : List ℕ) → heldBytes n (cutTo n c) bs ≡ cutTo n (withBytes c bs)
@@ -80,7 +76,7 @@ with-other n ended rest b e = rw e
 -- the bytes up to a line feed all belong to the line under way
 with-line : (n : ℕ) (ended : List (List ℕ)) (rest xs : List ℕ) → length rest ≤ n
     → heldBytes n (cutAs ended rest) (upToLineFeed xs) ≡ cutAs ended (take n (rest ++ upToLineFeed xs))
-unfolding heldBytes upToLineFeed
+unfolding heldBytes upTo
 with-line n ended rest [] h = with-none n ended rest h
 with-line n ended rest (b ∷ xs) h =
     by (eqb b lineFeed) refl
@@ -92,30 +88,6 @@ with-line n ended rest (b ∷ xs) h =
         → heldBytes n (cutAs ended rest) (pick t [] (b ∷ upToLineFeed xs)) ≡ cutAs ended (take n (rest ++ pick t [] (b ∷ upToLineFeed xs)))
     by true e more = with-none n ended rest h
     by false e more = ap (λ (c : Cut). heldBytes n c (upToLineFeed xs)) (with-other n ended rest b e) ∙ more
-
--- without a line feed all bytes belong to the line
-up-all : (xs : List ℕ) → length xs ≤ length (upToLineFeed xs) → upToLineFeed xs ≡ xs
-unfolding upToLineFeed
-up-all [] h = refl
-up-all (b ∷ xs) h = by (eqb b lineFeed) h (up-all xs)
-  where
-    by : (t : Bool) → suc (length xs) ≤ length (pick t [] (b ∷ upToLineFeed xs))
-        → (length xs ≤ length (upToLineFeed xs) → upToLineFeed xs ≡ xs) → pick t [] (b ∷ upToLineFeed xs) ≡ b ∷ xs
-    by true g more = absurd (omega arith)
-    by false g more = ap (λ (l : List ℕ). b ∷ l) (more (omega arith))
-
--- with one, it stands behind them, and then the others
-up-split : (xs : List ℕ) → length (upToLineFeed xs) < length xs
-    → xs ≡ upToLineFeed xs ++ lineFeed ∷ drop (suc (length (upToLineFeed xs))) xs
-unfolding upToLineFeed
-up-split [] h = absurd (omega arith)
-up-split (b ∷ xs) h = by (eqb b lineFeed) refl h (up-split xs)
-  where
-    by : (t : Bool) → eqb b lineFeed ≡ t → length (pick t [] (b ∷ upToLineFeed xs)) < suc (length xs)
-        → (length (upToLineFeed xs) < length xs → xs ≡ upToLineFeed xs ++ lineFeed ∷ drop (suc (length (upToLineFeed xs))) xs)
-        → b ∷ xs ≡ pick t [] (b ∷ upToLineFeed xs) ++ lineFeed ∷ drop (length (pick t [] (b ∷ upToLineFeed xs))) xs
-    by true e g more = ap (λ (x : ℕ). x ∷ xs) (eqb-true b lineFeed e)
-    by false e g more = ap (λ (l : List ℕ). b ∷ l) (more (omega arith))
 
 -- ---- bytes that are held
 module _ (line rest bs : List ℕ) (within : length rest ≤ length line) (front : take (length rest) line ≡ rest) where
@@ -145,21 +117,6 @@ module _ (line rest bs : List ℕ) (within : length rest ≤ length line) (front
       ap (take (length (take (length line) (rest ++ bs)))) stored
       ∙ take-at (rest ++ take room bs) (drop (length rest + length (take room bs)) line) _ size
       ∙ sym held-all
-
--- ---- parts of what was read
--- the front of a list without its first elements
-drop-take : (k m n : ℕ) (xs : List ℕ) → n ≡ k + m → drop k (take n xs) ≡ take m (drop k xs)
-drop-take zero m n xs e = let same : n ≡ m = omega arith in ap (λ (j : ℕ). take j xs) same
-drop-take (suc k) m zero xs e = absurd (omega arith)
-drop-take (suc k) m (suc n) [] e = sym (take-nil m)
-drop-take (suc k) m (suc n) (x ∷ xs) e = drop-take k m n xs (omega arith)
-
--- behind the first bytes of a part are those up to its end
-between-behind : (from to k : ℕ) (part : List ℕ) → from + k ≤ to → drop k (between from to part) ≡ between (from + k) to part
-between-behind from to k part h =
-    let e : to - from ≡ k + (to - (from + k)) = omega arith in
-    drop-take k (to - (from + k)) (to - from) (drop from part) e
-    ∙ ap (take (to - (from + k))) (drop-drop k from part)
 
 -- ---- one turn of taking
 module _ (f : Feed) (part line : List ℕ) (ended : List (List ℕ)) (h : f .held ≤ length line) (l : f .to ≤ length part) where
@@ -193,7 +150,7 @@ module _ (f : Feed) (part line : List ℕ) (ended : List (List ℕ)) (h : f .hel
 
   -- the input is over
   cuts-last : usedUp f ≡ true → Cuts (lastOf f)
-  unfolding usedUp lastOf ahead heldBytes upToLineFeed
+  unfolding usedUp lastOf ahead heldBytes upTo
   cuts-last e =
       rw (between-none part (f .from) (f .to) (leb-true (f .to) (f .from) e), none-left)
       (sym (append-nil (pick (ltb 0 (f .held)) (lineFeed ∷ []) [])), by (ltb 0 (f .held)) refl)
@@ -215,7 +172,7 @@ module _ (f : Feed) (part line : List ℕ) (ended : List (List ℕ)) (h : f .hel
   -- without a line feed they are all that was read
   ahead-all : length (unread f part) ≤ length (ahead f part) → ahead f part ≡ unread f part
   unfolding ahead
-  ahead-all g = up-all (unread f part) g
+  ahead-all g = up-all lineFeed (unread f part) g
 
   -- with one, it stands behind them, and then what is taken next
   ahead-split : f .from + length (ahead f part) < f .to
@@ -224,7 +181,7 @@ module _ (f : Feed) (part line : List ℕ) (ended : List (List ℕ)) (h : f .hel
   ahead-split g =
       let n : ℕ = length (upToLineFeed (unread f part)) in
       let e : f .from + suc n ≡ f .from + n + 1 = omega arith in
-      up-split (unread f part) (omega (arith, unread-size))
+      up-split lineFeed (unread f part) (omega (arith, unread-size))
       ∙ ap (λ (v : List ℕ). upToLineFeed (unread f part) ++ lineFeed ∷ v)
       (between-behind (f .from) (f .to) (suc n) part (omega arith) ∙ ap (λ (k : ℕ). between k (f .to) part) e)
 

@@ -1,72 +1,19 @@
 -- The bytes of a line that are read and held, and what is taken of the input.
-use Prim.Native.Nat.{ℕ, zero, suc, _+_, _-_, _≤_, _<_, min}
+use Prim.Native.Nat.{ℕ, _+_, _-_, _≤_, _<_, min}
 use native.Mathlib.Omega.{arith}
-use native.Mathlib.Numerals.{add-one}
-use mathlib.Core.Path.{_≡_, refl, sym, ap, _∙_}
+use mathlib.Core.Path.{_≡_, sym, ap, _∙_}
 use mathlib.Core.Bool.{true, false}
-use mathlib.Core.List.{List, [], _∷_}
-use lib.Dec.{eqb}
-use lib.ListN.{length, getD, set, take, drop, length-set, length-take, length-drop}
-use lib.Seq.{sets, drop-cons, take-take, length-take-le}
-use borrow.Author.Tests.{eq-eqb, ne-eqb, leb-true, leb-false, lt-ltb, le-ltb}
-use Rattle.basics.proofs.Cases.{pick-case}
-use Rattle.basics.proofs.Stores.{sets-past}
+use mathlib.Core.List.{List}
+use lib.ListN.{length, take, drop, length-take, length-drop}
+use lib.Seq.{sets, take-take, length-take-le}
+use borrow.Author.Tests.{leb-true, leb-false, lt-ltb, le-ltb}
+use Rattle.basics.specs.Lists.{between}
+use Rattle.basics.proofs.Stores.{sets-cut}
+use Rattle.basics.proofs.Fronts.{up-past, up-most, up-taken}
+pub use Rattle.basics.proofs.Fronts.{between-none}
 use Rattle.writing.specs.Answers.{Wrote, lineFeed}
-use Rattle.lines.specs.Input.{usedUp, between, upToLineFeed, ahead, lastOf, endedAt, goesOn, heldWith, takenOf}
+use Rattle.lines.specs.Input.{usedUp, upToLineFeed, ahead, lastOf, endedAt, goesOn, heldWith, takenOf}
 use Rattle.lines.specs.declared.Feed.{Feed}
-
--- nothing lies from a place up to one that is not behind it
-pub between-none : (part : List ℕ) (at to : ℕ) → to ≤ at → between at to part ≡ []
-between-none part at to h = let e : to - at ≡ 0 = omega arith in rw e
-
--- the first element from a place up to one behind it, and the others
-between-more : (part : List ℕ) (at to : ℕ) → at < to → to ≤ length part
-    → between at to part ≡ getD part at 0 ∷ between (at + 1) to part
-between-more part at to h l =
-    let e : to - at ≡ suc (to - suc at) = omega arith in
-    let b : at < length part = omega arith in
-    rw (e, add-one at, drop-cons part at 0 b)
-
--- a line ends at the end of what was read
-pub line-past : (part : List ℕ) (at to : ℕ) → to ≤ at → upToLineFeed (between at to part) ≡ []
-unfolding upToLineFeed
-line-past part at to h = rw (between-none part at to h)
-
--- a line ends at a line feed
-pub line-ends : (part : List ℕ) (at to : ℕ) → at < to → to ≤ length part → getD part at 0 ≡ lineFeed
-    → upToLineFeed (between at to part) ≡ []
-unfolding upToLineFeed
-line-ends part at to h l e = rw (between-more part at to h l, eq-eqb (getD part at 0) lineFeed e)
-
--- any other byte belongs to the line
-pub line-goes-on : (part : List ℕ) (at to : ℕ) → at < to → to ≤ length part → (getD part at 0 ≡ lineFeed → ⊥)
-    → upToLineFeed (between at to part) ≡ getD part at 0 ∷ upToLineFeed (between (at + 1) to part)
-unfolding upToLineFeed
-line-goes-on part at to h l e = rw (between-more part at to h l, ne-eqb (getD part at 0) lineFeed e)
-
--- a line has no more bytes than it is taken from
-up-most : (bs : List ℕ) → length (upToLineFeed bs) ≤ length bs
-unfolding upToLineFeed
-up-most [] = omega arith
-up-most (b ∷ bs) =
-    pick-case (λ (l : List ℕ). length l ≤ suc (length bs)) (eqb b lineFeed) [] (b ∷ upToLineFeed bs)
-    (λ e. omega arith)
-    (λ e. omega (arith, up-most bs))
-
--- the bytes up to the first line feed are the front of the bytes
-up-taken : (bs : List ℕ) → take (length (upToLineFeed bs)) bs ≡ upToLineFeed bs
-unfolding upToLineFeed
-up-taken [] = refl
-up-taken (b ∷ bs) =
-    pick-case (λ (l : List ℕ). take (length l) (b ∷ bs) ≡ l) (eqb b lineFeed) [] (b ∷ upToLineFeed bs)
-    (λ e. refl)
-    (λ e. ap (λ (l : List ℕ). b ∷ l) (up-taken bs))
-
--- what has no place in a list is not stored in it
-pub sets-cut : (l : List ℕ) (i n : ℕ) (vs : List ℕ) → length l ≤ i + n → sets l i (take n vs) ≡ sets l i vs
-sets-cut l i zero vs h = sym (sets-past l i vs (omega arith))
-sets-cut l i (suc n) [] h = refl
-sets-cut l i (suc n) (v ∷ vs) h = sets-cut (set l i v) (suc i) n vs (omega (arith, length-set l i v))
 
 -- of bytes that have no room those are held that fill it
 pub held-cut : (line part after : List ℕ) (held from to cut next : ℕ) → held ≤ length line → to ≤ length part
@@ -88,7 +35,7 @@ held-cut line part after held from to cut next h l c b w =
 pub taken-last : (f : Feed) (part line : List ℕ) → usedUp f ≡ true
     → (lastOf f ≡ takenOf f part (length line)) × (line ≡ sets line (f .held) (ahead f part))
 unfolding usedUp ahead takenOf
-taken-last f part line e = (rw e, rw (line-past part (f .from) (f .to) (leb-true (f .to) (f .from) e)))
+taken-last f part line e = (rw e, rw (up-past lineFeed (between-none part (f .from) (f .to) (leb-true (f .to) (f .from) e))))
 
 -- where not all is used up, something is left
 pub something-left : (f : Feed) → usedUp f ≡ false → f .from < f .to
@@ -102,7 +49,7 @@ module _ (f : Feed) (part : List ℕ) (end : ℕ) (some : usedUp f ≡ false)
   pub end-within : end ≤ f .to
   end-within =
       let most : length (between (f .from) (f .to) part) ≤ f .to - f .from = simp length-take (omega arith) in
-      omega (arith, something-left f some, up-most (between (f .from) (f .to) part))
+      omega (arith, something-left f some, up-most lineFeed (between (f .from) (f .to) part))
 
   -- they are the bytes up to their end
   end-ahead : between (f .from) end part ≡ ahead f part
@@ -113,7 +60,7 @@ module _ (f : Feed) (part : List ℕ) (end : ℕ) (some : usedUp f ≡ false)
       let within : end - f .from ≤ f .to - f .from = omega (arith, end-within) in
       sym (take-take (end - f .from) (f .to - f .from) (drop (f .from) part) within)
       ∙ ap (λ (k : ℕ). take k left) n
-      ∙ up-taken left
+      ∙ up-taken lineFeed left
 
   -- they are held
   module _ (line after : List ℕ) (held : ℕ) (h : held ≡ min (length line) (f .held + (end - f .from)))

@@ -1,10 +1,11 @@
 -- The input, line by line.
-use Prim.Native.Nat.{ℕ, _+_, _-_, min}
+use Prim.Native.Nat.{ℕ, _+_, min}
 use mathlib.Core.Bool.{Bool, true, false}
-use mathlib.Core.List.{List, [], _∷_}
-use lib.Dec.{eqb, leb, ltb}
-use lib.ListN.{length, take, drop}
+use mathlib.Core.List.{List}
+use lib.Dec.{leb, ltb}
+use lib.ListN.{length}
 use Rattle.basics.specs.Choice.{pick}
+use Rattle.basics.specs.Lists.{between, upTo}
 use Rattle.writing.specs.Answers.{lineFeed}
 use Rattle.lines.specs.declared.Feed.{Feed}
 use Rattle.lines.specs.declared.Taken.{Taken}
@@ -21,14 +22,9 @@ usedUp f = leb (f .to) (f .from)
 unfoldable pub filledTo : ℕ → Feed → Feed
 filledTo to f = record { from = 0; to = to; held = f .held; ended = f .ended }
 
--- the elements from one place up to another
-abbrev pub between : ℕ → ℕ → List ℕ → List ℕ
-between from to xs = take (to - from) (drop from xs)
-
 -- the bytes up to the first line feed
-unfoldable pub upToLineFeed : List ℕ → List ℕ
-upToLineFeed [] = []
-upToLineFeed (b ∷ bs) = pick (eqb b lineFeed) [] (b ∷ upToLineFeed bs)
+abbrev pub upToLineFeed : List ℕ → List ℕ
+upToLineFeed bs = upTo lineFeed bs
 
 -- the bytes that were read and not yet taken, up to the end of the line under way
 unfoldable pub ahead : Feed → List ℕ → List ℕ

@@ -5,10 +5,11 @@ use mathlib.Core.List.{List, [], _∷_, _++_, map}
 use lib.Dec.{eqb, ltb}
 use lib.ListN.{take}
 use Rattle.basics.specs.Choice.{pick}
+use Rattle.basics.specs.Lists.{between}
 use Rattle.writing.specs.Answers.{lineFeed}
 use Rattle.lines.specs.declared.Feed.{Feed}
 use Rattle.lines.specs.declared.Taken.{Taken}
-use Rattle.lines.specs.Input.{between, ahead}
+use Rattle.lines.specs.Input.{ahead}
 
 -- a text so far: its lines that have ended, the latest first, and the line under way
 pub record Cut : Type 0 where

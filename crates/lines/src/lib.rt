@@ -4,7 +4,8 @@ ghost use mathlib.Core.Path.{_≡_};
 ghost use Prim.Native.Nat.{_+_, _≤_, min, _-_};
 ghost use lib.ListN.{length};
 ghost use lib.Seq.{sets};
-ghost use Rattle.lines.specs.Input.{atStart, usedUp, filledTo, oneMore, between, upToLineFeed, ahead, lastOf, takenOf};
+ghost use Rattle.basics.specs.Lists.{between};
+ghost use Rattle.lines.specs.Input.{atStart, usedUp, filledTo, oneMore, upToLineFeed, ahead, lastOf, takenOf};
 
 // Where the input stands.
 pub struct Feed {

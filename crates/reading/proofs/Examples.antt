@@ -5,9 +5,10 @@ use mathlib.Core.Bool.{true, false}
 use mathlib.Core.List.{[], _∷_}
 use mathlib.Core.Option.{none, some}
 use lib.IntN.{negsuc}
+use Rattle.basics.specs.Lists.{upTo}
 use Rattle.writing.specs.Digits.{digitsWithin, digitsOf, signedOf}
 use Rattle.reading.specs.Numbers.{isDigit, onlyDigits, valueFrom, numberOf}
-use Rattle.reading.specs.Words.{firstWord, furtherWords, wordsOf}
+use Rattle.reading.specs.Words.{furtherWords, wordsOf}
 use Rattle.reading.specs.Calls.{sameWord, namings, found, nameOf, counted, listsOf, listable, shapeRight, withNumber, numbersOf}
 use Rattle.reading.specs.Lines.{isComment, callWith, meaningOf}
 use Rattle.reading.specs.Lines.Meaning.{call, no-call}
@@ -40,24 +41,24 @@ negative = refl
 
 -- look 31
 a-look : meaningOf (108 ∷ 111 ∷ 111 ∷ 107 ∷ 32 ∷ 51 ∷ 49 ∷ []) ≡ call Look (31 ∷ [])
-unfolding isDigit onlyDigits valueFrom numberOf firstWord furtherWords sameWord namings found nameOf counted listsOf
+unfolding isDigit onlyDigits valueFrom numberOf upTo furtherWords sameWord namings found nameOf counted listsOf
     listable shapeRight withNumber numbersOf isComment callWith meaningOf
 a-look = refl
 
 -- look with two spaces
 two-spaces : meaningOf (108 ∷ 111 ∷ 111 ∷ 107 ∷ 32 ∷ 32 ∷ 51 ∷ []) ≡ no-call
-unfolding isDigit onlyDigits valueFrom numberOf firstWord furtherWords sameWord namings found nameOf counted listsOf
+unfolding isDigit onlyDigits valueFrom numberOf upTo furtherWords sameWord namings found nameOf counted listsOf
     listable shapeRight withNumber numbersOf isComment callWith meaningOf
 two-spaces = refl
 
 -- a space at the end makes an empty word
 space-behind : wordsOf (51 ∷ 32 ∷ []) ≡ (51 ∷ []) ∷ [] ∷ []
-unfolding firstWord furtherWords wordsOf
+unfolding upTo furtherWords wordsOf
 space-behind = refl
 
 -- a blank before #
 blank-before : meaningOf (32 ∷ 35 ∷ []) ≡ no-call
-unfolding isDigit onlyDigits valueFrom numberOf firstWord furtherWords sameWord namings found nameOf counted listsOf
+unfolding isDigit onlyDigits valueFrom numberOf upTo furtherWords sameWord namings found nameOf counted listsOf
     listable shapeRight withNumber numbersOf isComment callWith meaningOf
 blank-before = refl
 

@@ -9,12 +9,12 @@ use lib.Dec.{eqb, ltb}
 use lib.ListN.{length, getD, drop}
 use borrow.Author.Tests.{eq-eqb, ne-eqb, lt-ltb, le-ltb, ltb-true, ltb-false}
 use Rattle.basics.specs.Choice.{pick}
+use Rattle.basics.proofs.Fronts.{drop-more, up-goes-on}
 use Rattle.reading.specs.Numbers.{isDigit, onlyDigits, valueFrom, numberOf}
 use Rattle.writing.specs.Words.{space}
 use Rattle.reading.specs.Words.{firstWord}
 use Rattle.reading.specs.Found.{wordOf, wordAt}
 use Rattle.reading.specs.declared.Word.the-variants.{Number, NoNumber}
-use Rattle.reading.proofs.Splitting.{first-goes-on}
 
 -- the number that a word gives when it is read on from a value
 pub readOn : ℕ → List ℕ → Option ℕ
@@ -120,21 +120,25 @@ module _ (line : List ℕ) (start value at : ℕ) (r : Read line start value at)
       (readOn 0 (firstWord (drop start line))) (r .gives ∙ e)))
 
   module _ (h : at < length line) (other : getD line at 0 ≡ space → ⊥) where
+    -- the byte belongs to the word
+    goes-on : firstWord (drop at line) ≡ getD line at 0 ∷ firstWord (drop (at + 1) line)
+    goes-on = up-goes-on space (drop-more line at 0 h) other
+
     -- a byte is no digit
     pub read-below : getD line at 0 < 48 → NoNumber ≡ wordAt line start
     read-below l =
-        fails (ap (readOn value) (first-goes-on line at h other)
+        fails (ap (readOn value) goes-on
         ∙ on-other value (getD line at 0) (firstWord (drop (at + 1) line)) (digit-below (getD line at 0) l))
 
     pub read-above : 57 < getD line at 0 → NoNumber ≡ wordAt line start
     read-above l =
-        fails (ap (readOn value) (first-goes-on line at h other)
+        fails (ap (readOn value) goes-on
         ∙ on-other value (getD line at 0) (firstWord (drop (at + 1) line)) (digit-above (getD line at 0) l))
 
     -- the value does not fit 64 bits
     pub read-large : 2 ^ 64 ≤ value * 10 + (getD line at 0 - 48) → NoNumber ≡ wordAt line start
     read-large l =
-        fails (ap (readOn value) (first-goes-on line at h other)
+        fails (ap (readOn value) goes-on
         ∙ on-large value (getD line at 0) (firstWord (drop (at + 1) line)) l)
 
     -- a digit is read
@@ -144,8 +148,8 @@ module _ (line : List ℕ) (start value at : ℕ) (r : Read line start value at)
       within = omega arith;
       behind = omega (arith, r .behind);
       small = s;
-      place = omega (arith, r .place, ap length (first-goes-on line at h other));
+      place = omega (arith, r .place, ap length goes-on);
       gives = r .gives
-          ∙ ap (readOn value) (first-goes-on line at h other)
+          ∙ ap (readOn value) goes-on
           ∙ on-digit value (getD line at 0) (firstWord (drop (at + 1) line)) (digit-between (getD line at 0) l m);
     }

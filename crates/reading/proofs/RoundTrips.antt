@@ -10,7 +10,7 @@ use lib.Dec.{eqb, ltb}
 use lib.ListN.{length}
 use borrow.Author.Tests.{ne-eqb, lt-ltb, le-ltb, eqb-true, eqb-false, ltb-true}
 use Rattle.basics.specs.Choice.{pick}
-use Rattle.basics.specs.Lists.{Every}
+use Rattle.basics.specs.Lists.{Every, upTo}
 use Rattle.basics.specs.Lists.Every.{nobody, also}
 use Rattle.basics.proofs.Cases.{never, pick-case, and-true}
 use Rattle.basics.proofs.Everywhere.{every-map}
@@ -73,7 +73,7 @@ digits-read n h =
 
 -- words with one space between two are the line that they are the words of
 spaced-further : (bs : List ℕ) → firstWord bs ++ spaced (furtherWords bs) ≡ bs
-unfolding firstWord furtherWords spaced
+unfolding upTo furtherWords spaced
 spaced-further [] = refl
 spaced-further (b ∷ bs) = by (eqb b space) refl (spaced-further bs)
   where
@@ -91,12 +91,12 @@ abbrev pub Spaceless : List ℕ → Type 0
 Spaceless = Every (λ b. b ≡ space → ⊥)
 
 first-of : (w rest : List ℕ) → Spaceless w → firstWord (w ++ space ∷ rest) ≡ w
-unfolding firstWord
+unfolding upTo
 first-of w rest nobody = refl
 first-of w rest (also {x = b} {xs = bs} p ps) = rw (ne-eqb b space p) (ap (λ (l : List ℕ). b ∷ l) (first-of bs rest ps))
 
 first-alone : (w : List ℕ) → Spaceless w → firstWord w ≡ w
-unfolding firstWord
+unfolding upTo
 first-alone w nobody = refl
 first-alone w (also {x = b} {xs = bs} p ps) = rw (ne-eqb b space p) (ap (λ (l : List ℕ). b ∷ l) (first-alone bs ps))
 
@@ -121,7 +121,7 @@ joined-words w ws p (also {x = v} {xs = vs} q qs) =
 
 -- a word that is its own first word has no space
 whole-spaceless : (w : List ℕ) → firstWord w ≡ w → Spaceless w
-unfolding firstWord
+unfolding upTo
 whole-spaceless [] e = nobody
 whole-spaceless (b ∷ bs) e = by (eqb b space) refl e (whole-spaceless bs)
   where
@@ -164,7 +164,7 @@ Usable x =
 
 -- every name of the table is of use: no word of it stands for two calls
 pub usable : Every Usable namings
-unfolding sameWord namings found nameOf firstWord isComment
+unfolding sameWord namings found nameOf upTo isComment
 usable =
     also (refl, refl, λ r. refl)
     (also (refl, refl, λ r. refl)

@@ -10,7 +10,9 @@ use lib.ListN.{length, getD, take, drop}
 use lib.Seq.{sets, length-sets}
 use borrow.Author.Tests.{eq-eqb, ne-eqb, lt-ltb, le-ltb, leb-true, leb-false}
 use Rattle.basics.specs.Choice.{pick}
+use Rattle.basics.proofs.Fronts.{up-most, up-taken}
 use Rattle.basics.proofs.Stores.{sets-front}
+use Rattle.writing.specs.Words.{space}
 use Rattle.reading.specs.Numbers.{numberOf}
 use Rattle.reading.specs.Words.{firstWord, furtherWords, wordsOf}
 use Rattle.reading.specs.Calls.{mostNumbers, nameOf, withNumber, numbersOf, shapeRight}
@@ -20,7 +22,7 @@ use Rattle.reading.specs.declared.Name.{Name}
 use Rattle.reading.specs.declared.Line.the-variants.{Call, Comment, NoCall}
 use Rattle.reading.specs.declared.Named.the-variants.{As, Nothing}
 use Rattle.reading.specs.declared.Count.the-variants.{All, NotAll}
-use Rattle.reading.proofs.Splitting.{first-most, first-taken, further-none, further-some}
+use Rattle.reading.proofs.Splitting.{further-none, further-some}
 use Rattle.reading.proofs.Shapes.{shape-most, shape-none}
 
 -- an empty line is a comment
@@ -80,14 +82,14 @@ ahead-all (w ∷ ws) ns e = by (numberOf w) (numbersOf ws) refl e (ahead-all ws)
 -- the first word of a line is the part up to its end
 module _ (line : List ℕ) (end : ℕ) (ends : end ≡ length (firstWord line)) where
   word-taken : take end line ≡ firstWord line
-  word-taken = rw ends (first-taken line)
+  word-taken = rw ends (up-taken space line)
 
   pub word-length : end ≡ length (take end line)
   word-length = ends ∙ ap length (sym word-taken)
 
   -- behind any word but the last stands one byte at least
   pub word-behind : (end ≡ length line → ⊥) → end + 1 ≤ length line
-  word-behind more = apart (length line) (omega (arith, first-most line)) more
+  word-behind more = apart (length line) (omega (arith, up-most space line)) more
     where
       apart : (n : ℕ) → end ≤ n → (end ≡ n → ⊥) → end + 1 ≤ n
       apart n a b = omega arith

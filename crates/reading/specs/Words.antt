@@ -3,12 +3,12 @@ use Prim.Native.Nat.{ℕ}
 use mathlib.Core.List.{List, [], _∷_}
 use lib.Dec.{eqb}
 use Rattle.basics.specs.Choice.{pick}
+use Rattle.basics.specs.Lists.{upTo}
 use Rattle.writing.specs.Words.{space}
 
 -- the bytes up to the first space
-unfoldable pub firstWord : List ℕ → List ℕ
-firstWord [] = []
-firstWord (b ∷ bs) = pick (eqb b space) [] (b ∷ firstWord bs)
+abbrev pub firstWord : List ℕ → List ℕ
+firstWord bs = upTo space bs
 
 -- the words behind the first space, none if there is no space
 unfoldable pub furtherWords : List ℕ → List (List ℕ)

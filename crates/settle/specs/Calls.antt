@@ -3,6 +3,7 @@ use Prim.Native.Nat.{ℕ}
 use mathlib.Core.Path.{_≡_}
 use mathlib.Core.List.{List, [], _∷_, _++_}
 use lib.ListN.{drop, replicate}
+use Rattle.basics.specs.Lists.{between}
 use Rattle.calendar.specs.Closed.{day}
 use Rattle.book.specs.declared.Book.{Book}
 use Rattle.book.specs.declared.Opened.{Opened}
@@ -22,7 +23,6 @@ use Rattle.book.specs.Month.{month, monthWords}
 use Rattle.book.specs.Reading.{status, account, Looks}
 use Rattle.answers.specs.declared.Answer.{Answer}
 use Rattle.answers.specs.Told.{nothing, numbersTold, statusTold, balanceTold, closedTold, paidTold}
-use Rattle.lines.specs.Input.{between}
 use Rattle.settle.specs.declared.calls.Asked.{Asked}
 use Rattle.settle.specs.declared.calls.Played.{Played}
 

@@ -5,8 +5,10 @@ use native.Mathlib.Omega.{arith}
 use mathlib.Core.Path.{_≡_, ap}
 use lib.ListN.{length}
 use borrow.Author.Needs.{needs}
-use Rattle.lines.specs.Input.{between, upToLineFeed}
-use Rattle.lines.proofs.Input.{line-past, line-ends, line-goes-on}
+use Rattle.basics.specs.Lists.{between}
+use Rattle.basics.proofs.Fronts.{between-none, between-more, up-past, up-ends, up-goes-on}
+use Rattle.writing.specs.Answers.{lineFeed}
+use Rattle.lines.specs.Input.{upToLineFeed}
 use Rattle.lines.proofs.line_end.Statement.{statement}
 use Rattle.lines.proofs.line_end.Tie as tie
 
@@ -29,7 +31,7 @@ returns c =
     let turn = c .before .before in
     let args = turn .before .before .args in
     let pre = turn .before .before .pre in
-    let ends = line-ends (args .part .now) _ _ (turn .loop-test .taken) (pre .1) (c .if1 .taken) in
+    let ends = up-ends lineFeed (between-more (args .part .now) _ _ (turn .loop-test .taken) (pre .1)) (c .if1 .taken) in
     omega (arith, turn .before .loop .inv .1, ap length ends)
 
 add-at : tie.Need-add-at Inv-loop μ-loop
@@ -43,12 +45,12 @@ loop-again c =
     let turn = c .before .before in
     let args = turn .before .before .args in
     let pre = turn .before .before .pre in
-    let more = line-goes-on (args .part .now) _ _ (turn .loop-test .taken) (pre .1) (c .if1 .left) in
+    let more = up-goes-on lineFeed (between-more (args .part .now) _ _ (turn .loop-test .taken) (pre .1)) (c .if1 .left) in
     (omega arith, omega (arith, turn .before .loop .inv .1, ap length more))
 
 returns-2 : tie.Need-returns-2 Inv-loop μ-loop
 returns-2 c =
-    let past = line-past (c .before .before .args .part .now) _ _ (c .loop-test .left) in
+    let past = up-past lineFeed (between-none (c .before .before .args .part .now) _ _ (c .loop-test .left)) in
     omega (arith, c .before .loop .inv .1, ap length past)
 
 pub line-end-spec : {M : Type 1} → statement M

@@ -3,10 +3,11 @@
 use Prim.Native.Nat.{_-_}
 use native.Mathlib.Omega.{arith}
 use mathlib.Core.Path.{_∙_}
-use lib.ListN.{length}
+use lib.ListN.{length, drop-of-length-le}
 use borrow.Author.Needs.{needs}
+use Rattle.basics.proofs.Fronts.{drop-more, up-past, up-ends}
+use Rattle.writing.specs.Words.{space}
 use Rattle.reading.proofs.Reading.{Read, read-begins, read-ends, read-below, read-above, read-large, read-goes-on}
-use Rattle.reading.proofs.Splitting.{first-past, first-ends}
 use Rattle.reading.proofs.read_word.Statement.{statement}
 use Rattle.reading.proofs.read_word.Tie as tie
 
@@ -29,7 +30,8 @@ returns : tie.Need-returns Inv-loop μ-loop
 returns c =
     let turn = c .before .before .before in
     c .ended .ensures
-    ∙ read-ends _ _ _ _ (turn .before .loop .inv) (first-ends _ _ (turn .loop-test .taken) (c .before .if1 .taken))
+    ∙ read-ends _ _ _ _ (turn .before .loop .inv) 
+    (up-ends space (drop-more _ _ 0 (turn .loop-test .taken)) (c .before .if1 .taken))
 
 returns-2 : tie.Need-returns-2 Inv-loop μ-loop
 returns-2 c =
@@ -80,7 +82,8 @@ ended-requires-2 c κs = search needs
 returns-5 : tie.Need-returns-5 Inv-loop μ-loop
 returns-5 c =
     let turn = c .before in
-    c .ended2 .ensures ∙ read-ends _ _ _ _ (turn .before .loop .inv) (first-past _ _ (turn .loop-test .left))
+    c .ended2 .ensures ∙ read-ends _ _ _ _ (turn .before .loop .inv) 
+    (up-past space (drop-of-length-le _ (turn .loop-test .left)))
 
 pub read-word-spec : {M : Type 1} → statement M
 read-word-spec =

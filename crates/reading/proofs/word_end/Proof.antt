@@ -3,10 +3,11 @@
 use Prim.Native.Nat.{_+_, _-_, _≤_}
 use native.Mathlib.Omega.{arith}
 use mathlib.Core.Path.{_≡_, ap}
-use lib.ListN.{length, drop}
+use lib.ListN.{length, drop, drop-of-length-le}
 use borrow.Author.Needs.{needs}
+use Rattle.basics.proofs.Fronts.{drop-more, up-past, up-ends, up-goes-on}
+use Rattle.writing.specs.Words.{space}
 use Rattle.reading.specs.Words.{firstWord}
-use Rattle.reading.proofs.Splitting.{first-past, first-ends, first-goes-on}
 use Rattle.reading.proofs.word_end.Statement.{statement}
 use Rattle.reading.proofs.word_end.Tie as tie
 
@@ -25,7 +26,7 @@ shared-slice-read-if1 c = search needs
 returns : tie.Need-returns Inv-loop μ-loop
 returns c =
     let turn = c .before .before in
-    let ends = first-ends (turn .before .before .args .line .now) _ (turn .loop-test .taken) (c .if1 .taken) in
+    let ends = up-ends space (drop-more (turn .before .before .args .line .now) _ 0 (turn .loop-test .taken)) (c .if1 .taken) in
     omega (arith, turn .before .loop .inv .1, ap length ends)
 
 add-at : tie.Need-add-at Inv-loop μ-loop
@@ -37,12 +38,12 @@ loop-less c = search needs
 loop-again : tie.Need-loop-again Inv-loop μ-loop
 loop-again c =
     let turn = c .before .before in
-    let more = first-goes-on (turn .before .before .args .line .now) _ (turn .loop-test .taken) (c .if1 .left) in
+    let more = up-goes-on space (drop-more (turn .before .before .args .line .now) _ 0 (turn .loop-test .taken)) (c .if1 .left) in
     (omega arith, omega (arith, turn .before .loop .inv .1, ap length more))
 
 returns-2 : tie.Need-returns-2 Inv-loop μ-loop
 returns-2 c =
-    let past = first-past (c .before .before .args .line .now) _ (c .loop-test .left) in
+    let past = up-past space (drop-of-length-le (c .before .before .args .line .now) (c .loop-test .left)) in
     omega (arith, c .before .loop .inv .1, ap length past)
 
 pub word-end-spec : {M : Type 1} → statement M
