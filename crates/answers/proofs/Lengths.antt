@@ -4,30 +4,13 @@ use native.Mathlib.Numerals.{add-one}
 use native.Mathlib.Omega.{arith}
 use mathlib.Core.Path.{_≡_}
 use mathlib.Core.List.{List, [], _∷_, _++_}
-use lib.IntN.{ℤ, pos, negsuc}
 use lib.ListN.{length, getD, take, drop, length-append, length-take}
-use Rattle.writing.specs.Digits.{digitsOf, signedOf}
-use Rattle.writing.specs.Answers.{lineFeed, textOf, answerOf, noCallOf}
-use Rattle.writing.proofs.Digits.{digits-most}
-use Rattle.writing.proofs.Writing.{text-most, spaced-most}
+use Rattle.writing.specs.Digits.{digitsOf}
+use Rattle.writing.specs.Answers.{lineFeed}
+use Rattle.writing.proofs.Digits.{digits-most, signed-most}
+use Rattle.writing.proofs.Writing.{spaced-most, line-most}
 use Rattle.answers.specs.Text.{numbersText, balanceText, sixText, linesText, keptText, paidText}
 use Rattle.answers.specs.declared.Answer.{Answer}
-
--- a number with its sign
-pub signed-most : (z : ℤ) → length (signedOf z) ≤ 21
-unfolding signedOf
-signed-most (pos n) = omega (arith, digits-most n)
-signed-most (negsuc n) = omega (arith, digits-most (suc n))
-
--- numbers and a line feed
-line-most : (ns : List ℕ) → length (answerOf ns) ≤ 21 * length ns + 1
-unfolding answerOf
-line-most ns = omega (arith, length-append (textOf ns) (lineFeed ∷ []), text-most ns)
-
--- the answer to a line that is no call
-pub no-call-most : (line : ℕ) → length (noCallOf line) ≤ 28
-unfolding noCallOf
-no-call-most line = omega (arith, length-append (digitsOf line) (lineFeed ∷ []), digits-most line)
 
 -- up to seven numbers
 pub numbers-most : (a : Answer) → a .count ≤ 7 → length (numbersText a) ≤ 148

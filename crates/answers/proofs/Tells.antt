@@ -6,13 +6,14 @@ use mathlib.Core.List.{List}
 use lib.IntN.{ℤ}
 use lib.ListN.{length, take, drop, length-append}
 use Rattle.writing.specs.Answers.{Wrote}
+use Rattle.writing.proofs.Writing.{no-call-most}
 use Rattle.answers.specs.Text.{mostLent, mostAnswer, Tellable, answerText, textIn}
 use Rattle.answers.specs.Text.{keptOf, closedText}
 use Rattle.answers.specs.Told.{nothing, noCall, numbersTold, statusTold, balanceTold, closedTold, paidTold}
 use Rattle.answers.specs.declared.Form.{Form}
 use Rattle.answers.specs.declared.Form.the-variants.{Nothing, NoCall, Numbers, Balance, Closed, Paid}
 use Rattle.answers.specs.declared.Answer.{Answer}
-use Rattle.answers.proofs.Lengths.{no-call-most, numbers-most, balance-most, lines-most, kept-most, paid-most}
+use Rattle.answers.proofs.Lengths.{numbers-most, balance-most, lines-most, kept-most, paid-most}
 
 -- a comment's
 pub nothing-tells : (words : List ℕ) → Tellable nothing words

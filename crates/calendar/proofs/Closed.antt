@@ -4,7 +4,7 @@ use native.Mathlib.Omega.{arith}
 use native.Mathlib.Numerals.{add-one}
 use mathlib.Core.Path.{_≡_, refl, sym, ap, _∙_}
 use mathlib.Core.Bool.{true, _&&_}
-use mathlib.Core.List.{List, [], _∷_, _++_, map}
+use mathlib.Core.List.{List, [], _∷_, _++_, map, map-append}
 use lib.Dec.{leb}
 use lib.ListN.{length, getD, set, take, drop, length-take, length-map, drop-of-length-le}
 use lib.Seq.{drop-cons, getD-take, take-suc, take-all, length-take-le}
@@ -26,13 +26,6 @@ unfolding risesFrom
 rises-end k i ds h = rw (drop-of-length-le ds {i = i} h)
 
 -- ---- the days of a list, stored one after another
-pub stored-none : (ds : List ℕ) → padded mostClosed (day 0) [] ≡ padded mostClosed (day 0) (map day (take 0 ds))
-stored-none ds = refl
-
-map-append : {A B : Type 0} (f : A → B) (xs ys : List A) → map f (xs ++ ys) ≡ map f xs ++ map f ys
-map-append f [] ys = refl
-map-append f (x ∷ xs) ys = ap (λ l. f x ∷ l) (map-append f xs ys)
-
 pub stored-more : (ds : List ℕ) (i : ℕ) (days : List Day) → length ds ≤ mostClosed → i < length ds → days ≡ padded mostClosed (day 0) (map day (take i ds)) →
     set days i (day (getD ds i 0)) ≡ padded mostClosed (day 0) (map day (take (i + 1) ds))
 stored-more ds i days most h e =

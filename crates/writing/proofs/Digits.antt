@@ -1,4 +1,4 @@
--- The digits of a number: how many there are, and the first of them.
+-- The digits of a number: which and how many there are.
 use Prim.Native.Nat.{ℕ, zero, suc, _+_, _/_, _%_, _^_, _≤_, _<_}
 use native.Mathlib.Nat.{pow-suc}
 use native.Mathlib.Omega.{arith}
@@ -6,11 +6,12 @@ use mathlib.Core.Path.{_≡_, refl, sym, ap, _∙_}
 use mathlib.Core.Bool.{Bool, true, false}
 use mathlib.Core.List.{List, [], _∷_, _++_}
 use lib.Dec.{ltb}
-use lib.ListN.{length, getD, length-append, List·getD-append}
-use borrow.Author.Tests.{lt-ltb, le-ltb, ltb-false}
+use lib.IntN.{ℤ, pos, negsuc}
+use lib.ListN.{length, length-append}
+use borrow.Author.Tests.{lt-ltb, le-ltb}
 use Rattle.basics.specs.Choice.{pick}
 use Rattle.basics.proofs.Cases.{pick-case}
-use Rattle.writing.specs.Digits.{digit, digitsWithin, digitsOf}
+use Rattle.writing.specs.Digits.{digit, digitsWithin, digitsOf, signedOf}
 
 -- the tenth part of a number that has at most k + 1 digits
 pub tenth-below : (k n : ℕ) → n < 10 ^ suc k → n / 10 < 10 ^ k
@@ -42,6 +43,12 @@ pub digits-most-signed : (n : ℕ) → n ≤ 2 ^ 63 → length (digitsOf n) ≤ 
 unfolding digitsOf
 digits-most-signed n h = rw (digits-fewer 18 n (omega arith)) (digits-within 19 n)
 
+-- a number with its sign has at most 20 digits and the sign
+pub signed-most : (z : ℤ) → length (signedOf z) ≤ 21
+unfolding signedOf
+signed-most (pos n) = omega (arith, digits-most n)
+signed-most (negsuc n) = omega (arith, digits-most (suc n))
+
 -- a number below ten is its digit
 pub digits-one : (n : ℕ) → n < 10 → digitsOf n ≡ digit n ∷ []
 unfolding digitsOf digitsWithin
@@ -69,26 +76,3 @@ digits-some k n =
 pub digits-shorter : (n : ℕ) → 10 ≤ n → n < 2 ^ 64 → length (digitsOf n) ≡ length (digitsOf (n / 10)) + 1
 digits-shorter n h f =
     ap length (digits-more n h f) ∙ length-append (digitsOf (n / 10)) (digit (n % 10) ∷ [])
-
-digits-front : (k n : ℕ) → n < 10 ^ suc k → getD (digitsWithin (suc k) n) 0 0 ≡ digit 0 → n ≡ 0
-unfolding digitsWithin
-digits-front zero n h e = by (ltb n 10) refl e
-  where
-    by : (t : Bool) → ltb n 10 ≡ t → getD (pick t (digit n ∷ []) (digit (n % 10) ∷ [])) 0 0 ≡ digit 0 → n ≡ 0
-    by true f g = omega arith
-    by false f g = absurd (omega (arith, ltb-false n 10 f))
-digits-front (suc k) n h e = by (ltb n 10) refl e (digits-front k (n / 10) (tenth-below (suc k) n h))
-  where
-    by : (t : Bool) → ltb n 10 ≡ t
-        → getD (pick t (digit n ∷ []) (digitsWithin (suc k) (n / 10) ++ digit (n % 10) ∷ [])) 0 0 ≡ digit 0
-        → (getD (digitsWithin (suc k) (n / 10)) 0 0 ≡ digit 0 → n / 10 ≡ 0) → n ≡ 0
-    by true f g rest = omega arith
-    by false f g rest =
-        let front = List·getD-append (digitsWithin (suc k) (n / 10)) (digit (n % 10) ∷ []) 0 0 (digits-some k (n / 10)) in
-        let none : n / 10 ≡ 0 = rest (sym front ∙ g) in
-        absurd (omega (arith, ltb-false n 10 f))
-
--- no number but 0 is written with a zero in front
-pub digits-lead : (n : ℕ) → n < 2 ^ 64 → getD (digitsOf n) 0 0 ≡ digit 0 → n ≡ 0
-unfolding digitsOf
-digits-lead n h e = digits-front 19 n (omega arith) e

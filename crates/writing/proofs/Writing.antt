@@ -10,7 +10,7 @@ use lib.Seq.{sets, length-sets, take-suc, take-all, length-take-le}
 use Rattle.basics.proofs.Stores.{sets-append}
 use Rattle.writing.specs.Digits.{digitsOf}
 use Rattle.writing.specs.Words.{space, spaced, joined}
-use Rattle.writing.specs.Answers.{Wrote, textOf}
+use Rattle.writing.specs.Answers.{Wrote, lineFeed, textOf, answerOf, noCallOf}
 use Rattle.writing.proofs.Digits.{digits-most}
 
 -- nothing is written
@@ -79,17 +79,22 @@ spaced-most [] = omega arith
 spaced-most (n ∷ ns) =
     omega (arith, length-append (space ∷ digitsOf n) (spaced (map digitsOf ns)), digits-most n, spaced-most ns)
 
--- the numbers of a list: the first, and the others with a space in front of each
-pub text-parts : (n : ℕ) (ns : List ℕ) → textOf (n ∷ ns) ≡ digitsOf n ++ spaced (map digitsOf ns)
-unfolding textOf joined
-text-parts n ns = refl
-
 -- each number takes at most 21 bytes
 pub text-most : (ns : List ℕ) → length (textOf ns) ≤ 21 * length ns
 unfolding textOf joined
 text-most [] = omega arith
 text-most (n ∷ ns) =
     omega (arith, length-append (digitsOf n) (spaced (map digitsOf ns)), digits-most n, spaced-most ns)
+
+-- so too with a line feed behind them
+pub line-most : (ns : List ℕ) → length (answerOf ns) ≤ 21 * length ns + 1
+unfolding answerOf
+line-most ns = omega (arith, length-append (textOf ns) (lineFeed ∷ []), text-most ns)
+
+-- the answer to a line that is no call
+pub no-call-most : (line : ℕ) → length (noCallOf line) ≤ 28
+unfolding noCallOf
+no-call-most line = omega (arith, length-append (digitsOf line) (lineFeed ∷ []), digits-most line)
 
 -- one number more of a list is written
 pub further-more : (ns out between after : List ℕ) (at i next end : ℕ) → i < length ns

@@ -7,9 +7,8 @@ use mir.Val.{toZ, ofZ}
 use mir.Syntax.{w64}
 use borrow.Author.Needs.{needs}
 use Rattle.writing.proofs.Writing.{wrote-one, wrote-then, wrote-length}
-use Rattle.writing.proofs.Digits.{digits-most}
+use Rattle.writing.proofs.Digits.{digits-most, signed-most}
 use Rattle.answers.specs.Text.{balanceText}
-use Rattle.answers.proofs.Lengths.{signed-most}
 use Rattle.answers.proofs.Answer.tell_balance.Statement.{statement}
 use Rattle.answers.proofs.Answer.tell_balance.Tie as tie
 
