@@ -30,12 +30,6 @@ every-at nobody k d h = absurd (omega arith)
 every-at (also p ps) zero d h = p
 every-at (also p ps) (suc k) d h = every-at ps k d (omega arith)
 
--- a list that is sorted by one relation is sorted by each that follows from it
-pub sorted-map : {A : Type 0} {R S : A → A → Type 0} (f : (x y : A) → R x y → S x y) {xs : List A}
-    → Sorted R xs → Sorted S xs
-sorted-map f empty = empty
-sorted-map f (ahead {x = x} h s) = ahead (every-map (f x) h) (sorted-map f s)
-
 -- all elements of two lists
 pub every-append : {A : Type 0} {P : A → Type 0} {xs ys : List A} → Every P xs → Every P ys → Every P (xs ++ ys)
 every-append nobody qs = qs

@@ -14,17 +14,12 @@ use borrow.Author.Tests.{ltb-true, ltb-false, lt-ltb}
 use Rattle.basics.specs.Lists.{total, sum, table, tableFrom, countBelow}
 use Rattle.basics.proofs.Cases.{pick-case, below-or-not}
 use Rattle.basics.proofs.Sums.{one-most}
-use Rattle.basics.proofs.Tables.{table-length, table-at}
+use Rattle.basics.proofs.Tables.{table-at}
 use Rattle.basics.proofs.TableSums.{sum-both}
 use Rattle.netting.specs.Shares.{floorShare, remainder, centsLeft, comesBefore, rank, extraCent, share, shares}
 use Rattle.basics.proofs.Counts.{count-within, count-most, sum-same, sum-ones, sum-counted, sum-parts}
 use Rattle.basics.proofs.Counts.{sum-listed}
 use Rattle.netting.proofs.Ranks.{comes-first, ranks-below, rank-first}
-
--- there is a share for each of the 32 members
-pub shares-length : (c : ℕ) (gs : List ℕ) → length (shares c gs) ≡ 32
-unfolding shares
-shares-length c gs = table-length 32 (share c gs)
 
 -- what a member gets stands at its place
 pub share-at : (c : ℕ) (gs : List ℕ) (m : ℕ) → m < 32 → getD (shares c gs) m 0 ≡ share c gs m

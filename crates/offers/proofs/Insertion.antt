@@ -66,10 +66,6 @@ module _ {A : Type 0} (over : A → A → Bool) (o : A) where
       (λ e. ahead (also (f .first e) (every-map (λ z r. t _ _ _ (f .first e) r) h)) (ahead h s))
       (λ e. ahead (every-inserted (f .behind e) h) i)
 
--- insertion adds o and keeps the others, each once
-pub inserted-perm : {A : Type 0} (over : A → A → Bool) (o : A) (xs : List A) → Perm (insertedBy over o xs) (o ∷ xs)
-inserted-perm over o xs = ∣ inserted-permᴰ over o xs ∣₁
-
 module _ {A : Type 0} (over : A → A → Bool) where
   ranked-permᴰ : (xs : List A) → List·Permᴰ (rankedBy over xs) xs
   unfolding rankedBy
@@ -88,12 +84,6 @@ module _ {A : Type 0} (over : A → A → Bool) (laws : Ranks over) where
       inserted-sorted over o (Kept over) (laws .transitive)
       (every-all (λ y. record { first = laws .total o y; behind = λ e. e }) xs)
       s
-
-  -- what is entered one after another stands in order
-  pub ranked-keeps : (xs : List A) → Sorted (Kept over) (rankedBy over xs)
-  unfolding rankedBy
-  ranked-keeps [] = empty
-  ranked-keeps (o ∷ xs) = inserted-keeps o (ranked-keeps xs)
 
 -- ranking by a test on a part g of each element
 module _ {A B : Type 0} (g : A → B) (over : B → B → Bool) where

@@ -14,8 +14,8 @@ use Rattle.basics.specs.Lists.Sorted.{empty}
 use Rattle.basics.proofs.Cases.{never}
 use Rattle.offers.specs.declared.Offer.{Offer}
 use Rattle.offers.specs.Rank.{overtakes, inserted, ranked, rankedBy, Entry, TakenBefore, numbered, InOrder}
-use Rattle.basics.proofs.Everywhere.{every-map, sorted-map}
-use Rattle.offers.proofs.Insertion.{Kept, Ranks, Placed, every-inserted, inserted-sorted, inserted-keeps, ranked-keeps, ranked-perm, map-ranked}
+use Rattle.basics.proofs.Everywhere.{every-map}
+use Rattle.offers.proofs.Insertion.{Kept, Ranks, Placed, every-inserted, inserted-sorted, inserted-keeps, ranked-perm, map-ranked}
 
 -- x is no dearer than y, and at the same price no smaller
 pub record NoWorse (x y : Offer) : Type 0 where
@@ -84,14 +84,6 @@ overtakes-ranks = record {
 pub inserted-in-rank : (o : Offer) {xs : List Offer}
     → Sorted (Kept overtakes) xs → Sorted (Kept overtakes) (inserted o xs)
 inserted-in-rank o s = inserted-keeps overtakes overtakes-ranks o s
-
--- no ranked offer overtakes one ahead of it
-pub ranked-in-rank : (entered : List Offer) → Sorted (Kept overtakes) (ranked entered)
-ranked-in-rank entered = ranked-keeps overtakes overtakes-ranks entered
-
--- offers in order stand by rising price
-pub rank-by-price : {xs : List Offer} → Sorted (Kept overtakes) xs → Sorted (λ x y. x .price ≤ y .price) xs
-rank-by-price s = sorted-map (λ x y e. overtakes-false y x e .price) s
 
 -- the test on entries, which looks at their offers alone
 abbrev overtakesEntry : Entry → Entry → Bool

@@ -26,11 +26,6 @@ all-lines-most n left s = omega (arith, given-all-most n left (listed s), length
 pub bought-given : (gs : List Given) → take (boughtWith gs .count) (boughtWith gs .given) ≡ gs
 bought-given gs = padded-front 64 nothingGiven gs
 
--- each of these places is what was given there
-pub bought-at : (gs : List Given) (k : ℕ) (d : Given) → k < length gs → getD (boughtWith gs .given) k d ≡ getD gs k d
-bought-at gs k d h =
-    sym (getD-take (length gs) (boughtWith gs .given) k d h) ∙ ap (λ (l : List Given). getD l k d) (bought-given gs)
-
 -- there are 64 places
 pub bought-size : (gs : List Given) → length gs ≤ 64 → length (boughtWith gs .given) ≡ 64
 bought-size gs h = padded-length 64 nothingGiven gs h

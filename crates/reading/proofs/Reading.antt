@@ -20,7 +20,7 @@ use Rattle.reading.specs.declared.Word.the-variants.{Number, NoNumber}
 pub readOn : ℕ → List ℕ → Option ℕ
 readOn v w = pick (onlyDigits w && ltb (valueFrom v w) (2 ^ 64)) (some (valueFrom v w)) none
 
-pub value-least : (v : ℕ) (w : List ℕ) → v ≤ valueFrom v w
+value-least : (v : ℕ) (w : List ℕ) → v ≤ valueFrom v w
 unfolding valueFrom
 value-least v [] = omega arith
 value-least v (b ∷ bs) = omega (arith, value-least (v * 10 + (b - 48)) bs)
@@ -37,7 +37,7 @@ on-other : (v b : ℕ) (bs : List ℕ) → isDigit b ≡ false → readOn v (b �
 unfolding readOn onlyDigits valueFrom
 on-other v b bs e = rw e
 
-pub never-both : (t u : Bool) → u ≡ false → (t && u) ≡ false
+never-both : (t u : Bool) → u ≡ false → (t && u) ≡ false
 never-both true u e = e
 never-both false u e = refl
 

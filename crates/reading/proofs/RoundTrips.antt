@@ -71,21 +71,6 @@ digits-read n h =
     let v = digits-value 19 n (omega arith) in
     rw (lt-ltb _ _ (digits-some 19 n), digits-only 20 n, v, lt-ltb n (2 ^ 64) h)
 
--- words with one space between two are the line that they are the words of
-spaced-further : (bs : List ℕ) → firstWord bs ++ spaced (furtherWords bs) ≡ bs
-unfolding upTo furtherWords spaced
-spaced-further [] = refl
-spaced-further (b ∷ bs) = by (eqb b space) refl (spaced-further bs)
-  where
-    by : (t : Bool) → eqb b space ≡ t → firstWord bs ++ spaced (furtherWords bs) ≡ bs
-        → pick t [] (b ∷ firstWord bs) ++ spaced (pick t (firstWord bs ∷ furtherWords bs) (furtherWords bs)) ≡ b ∷ bs
-    by true e rest = rw (eqb-true b space e) (ap (λ (l : List ℕ). space ∷ l) rest)
-    by false e rest = ap (λ (l : List ℕ). b ∷ l) rest
-
-pub words-joined : (line : List ℕ) → joined (wordsOf line) ≡ line
-unfolding wordsOf joined
-words-joined line = spaced-further line
-
 -- a word has no space
 abbrev pub Spaceless : List ℕ → Type 0
 Spaceless = Every (λ b. b ≡ space → ⊥)
