@@ -1,8 +1,7 @@
 -- How large amounts can be.
 use Prim.Native.Nat.{ℕ, _+_, _-_, _*_, _/_, _≤_, _<_}
-use native.Mathlib.Nat.{mul-le-mul, le-div-iff-mul-le, div-add-mod', add-mul, mod-lt}
+use native.Mathlib.Nat.{mul-le-mul, le-div-iff-mul-le, div-add-mod', mod-lt}
 use native.Mathlib.Omega.{arith}
-use mathlib.Core.Path.{_≡_}
 use Rattle.amounts.specs.Amounts.{mostQuantity, mostClosePrice, mostRate, value, penalty}
 use Rattle.amounts.specs.Quotients.{rounded}
 

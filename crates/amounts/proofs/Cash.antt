@@ -1,8 +1,8 @@
 -- The cash for parts of an obligation: however it is delivered, the parts add up to what is due.
-use Prim.Native.Nat.{ℕ, _+_, _-_, _*_, _/_, _≤_, _<_}
+use Prim.Native.Nat.{ℕ, _+_, _≤_, _<_}
 use native.Mathlib.Nat.{mul-le-mul-left, mul-div-cancel, zero-div, mul-zero}
 use native.Mathlib.Omega.{arith}
-use mathlib.Core.Path.{_≡_, refl, sym, ap, _∙_}
+use mathlib.Core.Path.{_≡_, ap}
 use mathlib.Core.List.{List, [], _∷_}
 use Rattle.basics.specs.Lists.{total, sum}
 use Rattle.amounts.specs.Amounts.{dueFor, cash, cashOfEach}

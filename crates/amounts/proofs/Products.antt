@@ -2,7 +2,7 @@
 use Prim.Native.Nat.{ℕ, _+_, _-_, _*_, _/_, _%_, _^_, _≤_, _<_}
 use native.Mathlib.Nat.{add-mul, mul-add, mul-assoc, mul-right-comm, mul-le-mul, mul-le-mul-right, div-add-mod', mod-lt, div-eq-of-lt-le, div-le-of-le-mul, mul-zero, zero-div, zero-mod}
 use native.Mathlib.Omega.{arith}
-use mathlib.Core.Path.{_≡_, refl, sym, ap, ap₂, _∙_}
+use mathlib.Core.Path.{_≡_, sym, ap, ap₂}
 use Rattle.amounts.specs.declared.Divided.{Divided}
 use Rattle.amounts.specs.Quotients.{divided, Part}
 

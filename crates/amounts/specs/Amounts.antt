@@ -1,7 +1,7 @@
 -- Money: cents, from units of 1,000 euro nominal, prices in thousandths of a percent and rates in hundredths of a
 -- basis point.
-use Prim.Native.Nat.{ℕ, _+_, _-_, _*_, _/_, _≤_, _<_}
-use mathlib.Core.Bool.{Bool, true, false}
+use Prim.Native.Nat.{ℕ, _+_, _-_, _*_, _/_}
+use mathlib.Core.Bool.{Bool}
 use mathlib.Core.List.{List, [], _∷_}
 use lib.Dec.{ltb, leb}
 use Rattle.basics.specs.Choice.{pick}

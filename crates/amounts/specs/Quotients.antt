@@ -1,5 +1,5 @@
 -- Quotients: rounded to the nearest, and with the remainder.
-use Prim.Native.Nat.{ℕ, _+_, _*_, _/_, _%_, _^_, _≤_, _<_}
+use Prim.Native.Nat.{ℕ, _+_, _/_, _%_, _^_, _≤_, _<_}
 use Rattle.amounts.specs.declared.Divided.{Divided}
 
 -- 01, Close, penalty and compensation: the quotient n / d to the nearest whole number, an exact half up

@@ -1,12 +1,11 @@
--- What holds of every element of a list, or of every two.
+-- What holds of every element of a list.
 use Prim.Native.Nat.{ℕ, zero, suc, _<_}
 use native.Mathlib.Omega.{arith}
 use mathlib.Core.Path.{refl, sym, subst}
 use mathlib.Core.List.{List, [], _∷_, _++_, List·Memᴰ, List·Memᴰ·head, List·Memᴰ·tail}
 use lib.ListN.{length, getD, set}
-use Rattle.basics.specs.Lists.{Every, Sorted}
+use Rattle.basics.specs.Lists.{Every}
 use Rattle.basics.specs.Lists.Every.{nobody, also}
-use Rattle.basics.specs.Lists.Sorted.{empty, ahead}
 
 -- what follows from a fact of each element holds of every element
 pub every-map : {A : Type 0} {P Q : A → Type 0} (f : (x : A) → P x → Q x) {xs : List A} → Every P xs → Every Q xs

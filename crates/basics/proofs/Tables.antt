@@ -1,13 +1,13 @@
 -- Tables by an index.
-use Prim.Native.Nat.{ℕ, zero, suc, _+_, _-_, _≤_, _<_}
+use Prim.Native.Nat.{ℕ, zero, suc, _+_, _-_, _<_}
 use native.Mathlib.Nat.{zero-add}
 use native.Mathlib.Omega.{arith}
 use mathlib.Core.Path.{_≡_, refl, sym, ap, _∙_}
 use mathlib.Core.Logic.{⊎-elim}
-use mathlib.Core.List.{List, [], _∷_}
+use mathlib.Core.List.{List}
 use lib.ListN.{length, getD, set}
 use lib.Seq.{getD-set-same, getD-set-other, ext-getD}
-use Rattle.basics.specs.Lists.{tableFrom, table, total, sum}
+use Rattle.basics.specs.Lists.{tableFrom, table}
 use Rattle.basics.proofs.Cases.{last-or-below}
 
 tableFrom-length : {A : Type 0} (k n : ℕ) (f : ℕ → A) → length (tableFrom k n f) ≡ n

@@ -4,13 +4,8 @@ use crate::Done;
 use ledger::Fetched;
 use offers::Offer;
 ghost use mathlib.Core.Path.{_≡_};
-ghost use Prim.Native.Nat.{_≤_};
-ghost use mathlib.Core.List.{[]};
-ghost use Rattle.amounts.specs.Amounts.{mostOfferPrice, mostClosePrice};
-ghost use Rattle.refusals.specs.Refusals.{answer};
 ghost use Rattle.book.specs.Book.{Valid};
 ghost use Rattle.book.specs.Buying.{offer};
-ghost use Rattle.refusals.specs.Calls.{offerRefusalsIn, offerRefusalsOf};
 
 impl Book {
     // Takes a supplier's offer for an obligation in its buy-in days.

@@ -12,13 +12,10 @@ use instructions::LegState;
 use ledger::Fetched;
 use ledger::Obligation;
 ghost use mathlib.Core.Path.{_≡_};
-ghost use Prim.Native.Nat.{_≤_, _<_};
-ghost use Rattle.refusals.specs.Refusals.{answer};
+ghost use Prim.Native.Nat.{_<_};
 ghost use Rattle.book.specs.Book.{Valid};
 ghost use Rattle.book.specs.Instructing.{obligationOf, enteredWith, enter, withdraw};
-ghost use Rattle.refusals.specs.Calls.{badDay, enterRefusals};
 ghost use Rattle.book.specs.Instructing.{cancel, deliver};
-ghost use Rattle.refusals.specs.Calls.{cancelRefusalsOf, deliverRefusalsOf};
 
 // The obligation of a new leg and the one that it matches.
 fn obligation_of(new: Leg, old: Leg) -> Obligation

@@ -8,11 +8,6 @@ use instructions::Legs;
 use ledger::Ledger;
 use ledger::Terms;
 ghost use mathlib.Core.Path.{_≡_};
-ghost use Prim.Native.Nat.{_≤_};
-ghost use mathlib.Core.Bool.{_||_, not};
-ghost use lib.Dec.{ltb};
-ghost use Rattle.calendar.specs.Closed.{lastDay, listed};
-ghost use Rattle.calendar.specs.Days.{clearing};
 ghost use Rattle.book.specs.Open.{termsOf, freshBook, refusedBook, opened};
 ghost use Rattle.book.specs.Book.{Valid};
 

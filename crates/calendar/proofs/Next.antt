@@ -1,14 +1,13 @@
 -- What the next clearing day is: later, a clearing day, and the first such.
 use Prim.Native.Nat.{ℕ, zero, suc, _+_, _-_, _≤_, _<_}
 use native.Mathlib.Omega.{arith}
-use mathlib.Core.Path.{_≡_, refl, sym, ap, subst, _∙_}
+use mathlib.Core.Path.{_≡_, refl, ap}
 use mathlib.Core.Bool.{Bool, true, false}
 use mathlib.Core.Logic.{⊎-elim}
 use mathlib.Core.List.{List}
 use Rattle.basics.specs.Choice.{pick}
 use Rattle.basics.proofs.Cases.{below-or-not}
 use Rattle.calendar.specs.declared.Day.{Day}
-use Rattle.calendar.specs.declared.NextDay.{NextDay}
 use Rattle.calendar.specs.declared.NextDay.the-variants.{At, Never}
 use Rattle.calendar.specs.Closed.{day, lastDay}
 use Rattle.calendar.specs.Days.{clearing, nextWithin, nextAfter}

@@ -1,11 +1,10 @@
 -- The walks from day to day, one day at a time.
-use Prim.Native.Nat.{ℕ, zero, suc, _+_, _-_, _≤_, _<_}
+use Prim.Native.Nat.{ℕ, suc, _+_, _-_, _≤_, _<_}
 use native.Mathlib.Omega.{arith}
-use mathlib.Core.Path.{_≡_, refl, sym, ap, _∙_}
+use mathlib.Core.Path.{_≡_, ap}
 use mathlib.Core.List.{List}
 use Rattle.basics.specs.Choice.{pick}
 use Rattle.calendar.specs.declared.Day.{Day}
-use Rattle.calendar.specs.declared.NextDay.{NextDay}
 use Rattle.calendar.specs.declared.NextDay.the-variants.{At, Never}
 use Rattle.calendar.specs.Closed.{day, lastDay}
 use Rattle.calendar.specs.Days.{clearing, nextWithin, nextAfter, nextOf, nthFrom, clearingWithin}

@@ -1,6 +1,6 @@
 -- What each part of a Close leaves of an obligation: it is sound, with the same parties, quantity and day, and what the
 -- lines say was bought or compensated is what moved.
-use Prim.Native.Nat.{ℕ, _+_, _-_, _≤_, _<_}
+use Prim.Native.Nat.{ℕ, _+_, _≤_, _<_}
 use native.Mathlib.Omega.{arith}
 use mathlib.Core.Path.{_≡_, refl, ap, _∙_}
 use mathlib.Core.Bool.{Bool, true, false}

@@ -8,7 +8,6 @@ use borrow.Author.Tests.{ltb-true}
 use Rattle.basics.specs.Choice.{pick}
 use Rattle.instructions.specs.declared.Leg.{Leg}
 use Rattle.instructions.specs.declared.Legs.{Legs}
-use Rattle.instructions.specs.declared.FetchedLeg.{FetchedLeg}
 use Rattle.instructions.specs.declared.FetchedLeg.the-variants.{Found, Absent}
 use Rattle.instructions.specs.Legs.{legAt, fetchedLeg, notWaiting}
 

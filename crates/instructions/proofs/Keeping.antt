@@ -1,15 +1,14 @@
 -- One leg more, or a leg in another state: the legs that were entered, how many wait, and that they stay valid.
-use Prim.Native.Nat.{ℕ, suc, _+_, _≤_, _<_}
+use Prim.Native.Nat.{ℕ, _+_, _<_}
 use native.Mathlib.Nat.{add-zero}
 use native.Mathlib.Numerals.{add-one}
 use native.Mathlib.Omega.{arith}
-use mathlib.Core.Path.{_≡_, refl, sym, ap, _∙_}
-use mathlib.Core.Bool.{true, false}
-use mathlib.Core.List.{List, [], _∷_, _++_}
-use lib.ListN.{length, getD, set, take, length-set, length-take}
+use mathlib.Core.Path.{_≡_, refl, ap, _∙_}
+use mathlib.Core.List.{[], _∷_, _++_}
+use lib.ListN.{length, getD, set, length-set, length-take}
 use lib.Seq.{take-suc-set, getD-take}
 use Rattle.basics.specs.Choice.{pick}
-use Rattle.basics.specs.Lists.{total, Every}
+use Rattle.basics.specs.Lists.{total}
 use Rattle.basics.specs.Lists.Every.{nobody, also}
 use Rattle.basics.proofs.Everywhere.{every-append, every-set, every-at}
 use Rattle.basics.proofs.Places.{take-set}

@@ -7,7 +7,7 @@ use mathlib.Core.Path.{_≡_, refl, sym, ap, _∙_}
 use mathlib.Core.Bool.{Bool, true, false, not}
 use mathlib.Core.List.{List, [], _∷_}
 use lib.Dec.{eqb}
-use lib.ListN.{length, getD, take, drop, length-take, drop-of-length-le}
+use lib.ListN.{length, getD, drop, length-take, drop-of-length-le}
 use lib.Seq.{drop-cons, getD-take}
 use borrow.Author.Tests.{eqb-true, not-true}
 use Rattle.basics.specs.Choice.{pick}
@@ -15,7 +15,6 @@ use Rattle.basics.proofs.Cases.{and-true}
 use Rattle.amounts.specs.Amounts.{amountsMatch}
 use Rattle.instructions.specs.declared.Leg.{Leg}
 use Rattle.instructions.specs.declared.Legs.{Legs}
-use Rattle.instructions.specs.declared.Fit.{Fit}
 use Rattle.instructions.specs.declared.Fit.the-variants.{With, Nobody}
 use Rattle.instructions.specs.Legs.{isWaiting, noLeg, entered, legAt}
 use Rattle.instructions.specs.Match.{delivering, receiving, membersCross, sameBusiness, fits, firstFit, lowestFit}

@@ -16,7 +16,6 @@ use Rattle.netting.proofs.Debts.{claims-listed, claims-length}
 use Rattle.netting.proofs.Shared.{shares-total, shares-floor, shares-most}
 use Rattle.payments.specs.Month.{badLists, overCollected, monthRefusals, payoutsOf, paidOut}
 use Rattle.payments.proofs.Collected.{good-lists, collected-shareable}
-use Rattle.refusals.specs.Refusals.{answer}
 use Rattle.refusals.proofs.Refusals.{passed}
 use Rattle.book.specs.declared.Book.{Book}
 use Rattle.book.specs.declared.Done.{Done}

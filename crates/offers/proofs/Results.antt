@@ -1,10 +1,9 @@
 -- How the result of a buy-in is read.
-use Prim.Native.Nat.{ℕ, _≤_, _<_}
+use Prim.Native.Nat.{ℕ, _≤_}
 use native.Mathlib.Omega.{arith}
-use mathlib.Core.Path.{_≡_, sym, ap, _∙_}
+use mathlib.Core.Path.{_≡_}
 use mathlib.Core.List.{List}
-use lib.ListN.{length, getD, take, length-take}
-use lib.Seq.{getD-take}
+use lib.ListN.{length, take, length-take}
 use Rattle.basics.specs.Lists.{table, sum}
 use Rattle.basics.proofs.Places.{padded-front, padded-length}
 use Rattle.offers.specs.declared.Given.{Given}

@@ -1,6 +1,6 @@
 -- The day's offers as the book holds them.
-use Prim.Native.Nat.{ℕ, _+_}
-use mathlib.Core.List.{List, [], _++_}
+use Prim.Native.Nat.{_+_}
+use mathlib.Core.List.{List, _++_}
 use lib.ListN.{take, drop, replicate}
 use Rattle.offers.specs.declared.Offer.{Offer}
 use Rattle.offers.specs.declared.Offers.{Offers}

@@ -1,15 +1,12 @@
 -- The number that a word is: the value of its digits, if that fits 64 bits.
-use Prim.Native.Nat.{ℕ, suc, _+_, _-_, _*_, _^_, _≤_, _<_}
-use native.Mathlib.Omega.{arith}
+use Prim.Native.Nat.{ℕ, _+_, _-_, _*_, _^_, _<_}
 use mathlib.Core.Path.{_≡_, refl}
-use mathlib.Core.Bool.{true, _&&_}
+use mathlib.Core.Bool.{true}
 use mathlib.Core.List.{List, [], _∷_, _++_}
-use mathlib.Core.Option.{none, some}
-use lib.Dec.{ltb}
+use mathlib.Core.Option.{some}
 use lib.ListN.{length}
-use borrow.Author.Tests.{lt-ltb, le-ltb}
-use Rattle.writing.specs.Digits.{digit}
-use Rattle.reading.specs.Numbers.{isDigit, onlyDigits, valueFrom, valueOf, numberOf}
+use borrow.Author.Tests.{lt-ltb}
+use Rattle.reading.specs.Numbers.{onlyDigits, valueFrom, valueOf, numberOf}
 
 -- a word behind a word is read on from its value
 pub value-append : (v : ℕ) (xs ys : List ℕ) → valueFrom v (xs ++ ys) ≡ valueFrom (valueFrom v xs) ys

@@ -30,7 +30,7 @@ returns : tie.Need-returns Inv-loop μ-loop
 returns c =
     let turn = c .before .before .before in
     c .ended .ensures
-    ∙ read-ends _ _ _ _ (turn .before .loop .inv) 
+    ∙ read-ends _ _ _ _ (turn .before .loop .inv)
     (up-ends space (drop-more _ _ 0 (turn .loop-test .taken)) (c .before .if1 .taken))
 
 returns-2 : tie.Need-returns-2 Inv-loop μ-loop
@@ -82,7 +82,7 @@ ended-requires-2 c κs = search needs
 returns-5 : tie.Need-returns-5 Inv-loop μ-loop
 returns-5 c =
     let turn = c .before in
-    c .ended2 .ensures ∙ read-ends _ _ _ _ (turn .before .loop .inv) 
+    c .ended2 .ensures ∙ read-ends _ _ _ _ (turn .before .loop .inv)
     (up-past space (drop-of-length-le _ (turn .loop-test .left)))
 
 pub read-word-spec : {M : Type 1} → statement M
