@@ -89,7 +89,7 @@ text-most (n ∷ ns) =
 -- so too with a line feed behind them
 pub line-most : (ns : List ℕ) → length (answerOf ns) ≤ 21 * length ns + 1
 unfolding answerOf
-line-most ns = omega (arith, length-append (textOf ns) (lineFeed ∷ []), text-most ns)
+line-most ns = simp length-append (omega (arith, text-most ns))
 
 -- the answer to a line that is no call
 pub no-call-most : (line : ℕ) → length (noCallOf line) ≤ 28
