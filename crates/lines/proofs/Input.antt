@@ -9,8 +9,7 @@ use lib.Seq.{sets, take-take, length-take-le}
 use borrow.Author.Tests.{leb-true, leb-false, lt-ltb, le-ltb}
 use Rattle.basics.specs.Lists.{between}
 use Rattle.basics.proofs.Stores.{sets-cut}
-use Rattle.basics.proofs.Fronts.{up-past, up-most, up-taken}
-pub use Rattle.basics.proofs.Fronts.{between-none}
+use Rattle.basics.proofs.Fronts.{between-none, up-past, up-most, up-taken}
 use Rattle.writing.specs.Answers.{Wrote, lineFeed}
 use Rattle.lines.specs.Input.{usedUp, upToLineFeed, ahead, lastOf, endedAt, goesOn, heldWith, takenOf}
 use Rattle.lines.specs.declared.Feed.{Feed}

@@ -10,7 +10,7 @@ use borrow.Author.Tests.{leb-true}
 use Rattle.lines.specs.declared.Feed.{Feed}
 use Rattle.lines.specs.Input.{usedUp, filledTo, ahead}
 use Rattle.lines.specs.Text.{Cut, uncut, withBytes, cutTo, unread, lastFeed, takenBytes, cutWith}
-use Rattle.lines.proofs.Input.{between-none}
+use Rattle.basics.proofs.Fronts.{between-none}
 use Rattle.lines.proofs.Cutting.{with-append, took-cuts}
 use Rattle.basics.specs.Choice.{pick}
 use Rattle.reading.specs.Lines.{mostBytes, meaningOf}
