@@ -557,11 +557,16 @@ class Items(Expressions):
         name = self.name_next()
         if self.take(";"):
             return Node("passed", start, self.done())
+        items = self.in_braces()
+        return Node("module", start, self.done(), name=name, items=items)
+
+    def in_braces(self):
+        """The items between braces."""
         self.need("{")
         items = []
         while not self.take("}"):
             items.append(self.item())
-        return Node("module", start, self.done(), name=name, items=items)
+        return items
 
     def struct(self, start):
         name = self.name_next()
@@ -650,10 +655,7 @@ class Items(Expressions):
     def impl(self, start):
         self.lifetimes()
         of = self.type()
-        self.need("{")
-        items = []
-        while not self.take("}"):
-            items.append(self.item())
+        items = self.in_braces()
         return Node("impl", start, self.done(), of=of, items=items)
 
 

@@ -44,9 +44,8 @@ def caught(row, known):
     if outcome.kind == "survivor":
         said = f" ({outcome.note})" if outcome.note else ""
         return f"survivor: {known.get(row.mutant.key, 'no reason given')}{said}"
-    if outcome.note:
-        return f"{outcome.kind}: {outcome.note}"
-    return outcome.kind
+    said = outcome.note or known.get(row.mutant.key)
+    return f"{outcome.kind}: {said}" if said else outcome.kind
 
 
 def counts(rows):
