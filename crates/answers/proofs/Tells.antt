@@ -15,61 +15,41 @@ use Rattle.answers.specs.declared.Form.the-variants.{Nothing, NoCall, Nu
 use Rattle.answers.specs.declared.Answer.{Answer}
 use Rattle.answers.proofs.Lengths.{numbers-most, balance-most, lines-most, kept-most, paid-most}
 
+-- an answer with no words that are lent
+unlent-tells : (a : Answer) (words : List ℕ) → a .count ≤ 7 → length (a .numbers) ≡ 7 → a .lent ≡ 0 → a .lines ≡ 0 → Tellable a words
+unlent-tells a words few whole none no-lines = record {
+  few = few;
+  whole = whole;
+  lends = omega (arith, none);
+  within = omega (arith, none);
+  lines = omega (arith, no-lines);
+}
+
 -- a comment's
 pub nothing-tells : (words : List ℕ) → Tellable nothing words
 unfolding nothing
-nothing-tells words = record {
-  few = omega arith;
-  whole = refl;
-  lends = omega arith;
-  within = omega arith;
-  lines = omega arith;
-}
+nothing-tells words = unlent-tells nothing words (omega arith) refl refl refl
 
 -- that of a line that is no call
 pub no-call-tells : (words : List ℕ) → Tellable noCall words
 unfolding noCall
-no-call-tells words = record {
-  few = omega arith;
-  whole = refl;
-  lends = omega arith;
-  within = omega arith;
-  lines = omega arith;
-}
+no-call-tells words = unlent-tells noCall words (omega arith) refl refl refl
 
 -- an answer number and results
 pub numbers-tells : (count answer second third : ℕ) (words : List ℕ) → count ≤ 7
     → Tellable (numbersTold count answer second third) words
 unfolding numbersTold
-numbers-tells count answer second third words h = record {
-  few = h;
-  whole = refl;
-  lends = omega arith;
-  within = omega arith;
-  lines = omega arith;
-}
+numbers-tells count answer second third words h = unlent-tells (numbersTold count answer second third) words h refl refl refl
 
 -- seven numbers
 pub status-tells : (seven words : List ℕ) → length seven ≡ 7 → Tellable (statusTold seven) words
 unfolding statusTold
-status-tells seven words h = record {
-  few = omega arith;
-  whole = h;
-  lends = omega arith;
-  within = omega arith;
-  lines = omega arith;
-}
+status-tells seven words h = unlent-tells (statusTold seven) words (omega arith) h refl refl
 
 -- an answer number and signed cents
 pub balance-tells : (answer : ℕ) (cents : ℤ) (words : List ℕ) → Tellable (balanceTold answer cents) words
 unfolding balanceTold
-balance-tells answer cents words = record {
-  few = omega arith;
-  whole = refl;
-  lends = omega arith;
-  within = omega arith;
-  lines = omega arith;
-}
+balance-tells answer cents words = unlent-tells (balanceTold answer cents) words (omega arith) refl refl refl
 
 -- that of a Close, with the lines in words that were lent
 pub closed-tells : (answer lines lent fill : ℕ) (words : List ℕ)

@@ -1,5 +1,5 @@
 -- The clearing days after a day are the weekdays after it without the closed days among them.
-use Prim.Native.Nat.{ℕ, zero, suc, _+_, _-_, _%_, _≤_, _<_}
+use Prim.Native.Nat.{ℕ, zero, suc, _+_, _-_, _*_, _/_, _%_, _≤_, _<_}
 use native.Mathlib.Omega.{arith}
 use mathlib.Core.Path.{_≡_, refl, sym, _∙_}
 use mathlib.Core.Bool.{Bool, true, false, not, _&&_}
@@ -14,16 +14,29 @@ use Rattle.calendar.specs.declared.ClosedDays.{ClosedDays}
 use Rattle.calendar.specs.Closed.{day, lastDay, risesFrom, listed, Rises, among}
 use Rattle.calendar.specs.Days.{clearing, clearingWithin, ageAt, weekdaysTo, takesAway, closedBetween}
 
--- without closed days: the weekdays
-weekdays-only : (d k : ℕ) → clearingWithin [] d k + weekdaysTo d ≡ weekdaysTo (d + k)
-unfolding clearingWithin clearing among weekdaysTo
-weekdays-only d zero = omega arith
-weekdays-only d (suc k) = by (leb 2 ((d + suc k) % 7)) refl (weekdays-only d k)
+-- five weekdays for each week, and those of the week under way
+abbrev byWeeks : ℕ → ℕ
+byWeeks n = 5 * (n / 7) + (n % 7 - 1)
+
+-- the weekdays after a day, by weeks
+by-weeks : (d k : ℕ) → clearingWithin [] d k + byWeeks d ≡ byWeeks (d + k)
+unfolding clearingWithin clearing among
+by-weeks d zero = omega arith
+by-weeks d (suc k) = by (leb 2 ((d + suc k) % 7)) refl (by-weeks d k)
   where
-    by : (t : Bool) → leb 2 ((d + suc k) % 7) ≡ t → clearingWithin [] d k + weekdaysTo d ≡ weekdaysTo (d + k) →
-        clearingWithin [] d k + pick (t && true) 1 0 + weekdaysTo d ≡ weekdaysTo (d + suc k)
+    by : (t : Bool) → leb 2 ((d + suc k) % 7) ≡ t → clearingWithin [] d k + byWeeks d ≡ byWeeks (d + k) →
+        clearingWithin [] d k + pick (t && true) 1 0 + byWeeks d ≡ byWeeks (d + suc k)
     by true e h = let a = leb-true 2 ((d + suc k) % 7) e in omega arith
     by false e h = let a = leb-false 2 ((d + suc k) % 7) e in omega arith
+
+-- all weekdays up to a day, by weeks
+pub weekdays-by-weeks : (n : ℕ) → weekdaysTo n ≡ byWeeks n
+unfolding weekdaysTo
+weekdays-by-weeks n = omega (arith, by-weeks 0 n)
+
+-- without closed days: the weekdays
+weekdays-only : (d k : ℕ) → clearingWithin [] d k + weekdaysTo d ≡ weekdaysTo (d + k)
+weekdays-only d k = omega (arith, weekdays-by-weeks d, weekdays-by-weeks (d + k), by-weeks d k)
 
 -- the days of a list as numbers
 abbrev numbers : List Day → List ℕ

@@ -1,5 +1,5 @@
 -- Clearing days, and how they are counted.
-use Prim.Native.Nat.{ℕ, zero, suc, _+_, _-_, _*_, _/_, _%_}
+use Prim.Native.Nat.{ℕ, zero, suc, _+_, _-_, _%_}
 use mathlib.Core.Bool.{Bool, not, _&&_}
 use mathlib.Core.List.{List, [], _∷_}
 use lib.Dec.{leb, ltb}
@@ -50,10 +50,9 @@ clearingWithin cs d (suc k) = clearingWithin cs d k + pick (clearing cs (day (d 
 unfoldable pub ageAt : List Day → Day → Day → ClearingDays
 ageAt cs j today = clearingDays (clearingWithin cs (j .0) (today .0 - j .0))
 
--- no rule, but how the age is worked out: the weekdays up to and with day n, with remainders 2 to
--- 6 by 7
+-- no rule, but for how an age is worked out: the weekdays up to and with day n, as if no day were closed
 unfoldable pub weekdaysTo : ℕ → ℕ
-weekdaysTo n = 5 * (n / 7) + (n % 7 - 1)
+weekdaysTo n = clearingWithin [] 0 n
 
 -- no rule: closed day c is a weekday after one day up to another
 unfoldable pub takesAway : Day → Day → Day → Bool

@@ -44,17 +44,21 @@ plain-name Look count ns h = refl
 pub nothing-listed : (line : Line) (ns : List ℕ) → Listed (nothingAsked line) ns
 nothing-listed line ns = record { begins = omega arith; ends = omega arith; lends = omega arith }
 
+-- neither has a call without one
+plain-listed : (line : Line) (ns : List ℕ) → Listed (askedPlain line ns) ns
+plain-listed line ns = record { begins = omega arith; ends = omega arith; lends = omega arith }
+
 -- the list of a call is among its numbers
 pub call-listed : (name : Name) (count : ℕ) (ns : List ℕ) → count ≤ length ns → shapeRight name (take count ns) ≡ true
     → Listed (askedCall name count ns) ns
 unfolding askedCall
 call-listed Open count ns h s =
     let l = open-listed ns count h s in record { begins = omega (arith, l .0); ends = h; lends = omega arith }
-call-listed Enter count ns h s = record { begins = omega arith; ends = omega arith; lends = omega arith }
-call-listed Withdraw count ns h s = record { begins = omega arith; ends = omega arith; lends = omega arith }
-call-listed Cancel count ns h s = record { begins = omega arith; ends = omega arith; lends = omega arith }
-call-listed Deliver count ns h s = record { begins = omega arith; ends = omega arith; lends = omega arith }
-call-listed Offer count ns h s = record { begins = omega arith; ends = omega arith; lends = omega arith }
+call-listed Enter count ns h s = plain-listed (Call Enter count) ns
+call-listed Withdraw count ns h s = plain-listed (Call Withdraw count) ns
+call-listed Cancel count ns h s = plain-listed (Call Cancel count) ns
+call-listed Deliver count ns h s = plain-listed (Call Deliver count) ns
+call-listed Offer count ns h s = plain-listed (Call Offer count) ns
 call-listed Close count ns h s =
     let l = close-listed ns count h s in
     let e : count - 2 ≡ 2 = omega (arith, l .0) in
@@ -63,9 +67,9 @@ call-listed Month count ns h s =
     let l = month-listed ns count h s in
     let e : count - 2 ≡ getD ns 0 0 + 1 = omega (arith, l .0) in
     record { begins = omega (arith, l .0); ends = omega (arith, h); lends = rw e (l .2) }
-call-listed Status count ns h s = record { begins = omega arith; ends = omega arith; lends = omega arith }
-call-listed Account count ns h s = record { begins = omega arith; ends = omega arith; lends = omega arith }
-call-listed Look count ns h s = record { begins = omega arith; ends = omega arith; lends = omega arith }
+call-listed Status count ns h s = plain-listed (Call Status count) ns
+call-listed Account count ns h s = plain-listed (Call Account count) ns
+call-listed Look count ns h s = plain-listed (Call Look count) ns
 
 -- the numbers of a line that has ended are noted
 pub noted-line : (t : Taken) (line ns : List ℕ) {after : List ℕ} {l : Line} → t .ends ≡ true
