@@ -1,24 +1,24 @@
--- How large amounts can be.
+-- Laws on how large amounts can be.
 use Prim.Native.Nat.{ℕ, _+_, _-_, _*_, _/_, _≤_, _<_}
 use native.Mathlib.Nat.{mul-le-mul, le-div-iff-mul-le, div-add-mod', mod-lt}
 use native.Mathlib.Omega.{arith}
 use Rattle.amounts.specs.Amounts.{mostQuantity, mostClosePrice, mostRate, value, penalty}
 use Rattle.amounts.specs.Quotients.{rounded}
 
--- a product of two numbers with bounds
+-- the product of two numbers is at most the product of their bounds
 pub product-most : (a b m n : ℕ) → a ≤ m → b ≤ n → a * b ≤ m * n
 product-most a b m n h k = mul-le-mul h k
 
--- a quotient does not fall where the dividend grows
+-- a quotient does not fall when the dividend grows
 pub quotient-rises : {x y k : ℕ} → 0 < k → x ≤ y → x / k ≤ y / k
 quotient-rises {x} {y} {k} p h = le-div-iff-mul-le {k = k} {x = x / k} {y = y} p .1 (omega (arith, div-add-mod' x k))
 
--- the rounded quotient is the nearest: its multiple is within half the divisor of n, and an exact half goes up
+-- The rounded quotient is the nearest: times the divisor it is within half the divisor of n, and an exact half goes up.
 pub rounded-near : (n d : ℕ) → 0 < d → (rounded n d * d ≤ n + d / 2) × (n + d / 2 < rounded n d * d + d)
 unfolding rounded
 rounded-near n d h = let e = div-add-mod' (n + d / 2) d in let l = mod-lt (n + d / 2) h in (omega arith, omega arith)
 
--- the value of the largest quantity at a price
+-- the value of a quantity within the limits, at a price that is at most this
 pub value-most : {q price : ℕ} (most : ℕ) → q ≤ mostQuantity → price ≤ most → value q price ≤ mostQuantity * most
 unfolding value
 value-most most h k = mul-le-mul h k

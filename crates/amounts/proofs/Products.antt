@@ -1,4 +1,4 @@
--- Long division of a product, one digit of a factor after another.
+-- Laws on the long division of a product, one digit of a factor after another.
 use Prim.Native.Nat.{ℕ, _+_, _-_, _*_, _/_, _%_, _^_, _≤_, _<_}
 use native.Mathlib.Nat.{add-mul, mul-add, mul-assoc, mul-right-comm, mul-le-mul, mul-le-mul-right, div-add-mod', mod-lt, div-eq-of-lt-le, div-le-of-le-mul, mul-zero, zero-div, zero-mod}
 use native.Mathlib.Omega.{arith}
@@ -6,7 +6,7 @@ use mathlib.Core.Path.{_≡_, sym, ap, ap₂}
 use Rattle.amounts.specs.declared.Divided.{Divided}
 use Rattle.amounts.specs.Quotients.{divided, Part}
 
--- a quotient and a remainder below the divisor are those of the division
+-- a quotient and a remainder that is below the divisor are those of the division
 pub divided-is : (p : Divided) (n d : ℕ) → p .quotient * d + p .remainder ≡ n → p .remainder < d → p ≡ divided n d
 divided-is p n d whole less =
     let f : p .quotient * d + d ≡ (p .quotient + 1) * d = omega (arith, add-mul (p .quotient) 1 d) in
@@ -14,11 +14,11 @@ divided-is p n d whole less =
     let r : n % d ≡ p .remainder = omega (arith, div-add-mod' n d, ap (λ (x : ℕ). x * d) q) in
     ap₂ (λ (x y : ℕ). record { quotient = x; remainder = y }) (sym q) (sym r)
 
--- nothing divided
+-- the division of 0
 pub divided-none : (c d : ℕ) → record { quotient = 0; remainder = 0 } ≡ divided (c * 0) d
 divided-none c d = rw (mul-zero, zero-div, zero-mod)
 
--- a part of a whole, times a number: the quotient is at most the number
+-- c is part of a whole, so c times a number, divided by the whole, is at most that number
 pub part-most : (c f w : ℕ) → Part c w → c * f / w ≤ f
 part-most c f w h = div-le-of-le-mul w (mul-le-mul-right f (h .within))
 
@@ -29,7 +29,7 @@ module _ (c f w : ℕ) (h : Part c w) where
   abbrev digit : ℕ
   digit = c * (f % 32768)
 
-  -- the quotient and the remainder with one digit more
+  -- the quotient and the remainder after one digit more
   digit-more : record { quotient = front / w * 32768 + (front % w * 32768 + digit) / w; remainder = (front % w * 32768 + digit) % w } ≡ divided (c * f) w
   digit-more =
       let rest : ℕ = front % w * 32768 + digit in
@@ -42,7 +42,7 @@ module _ (c f w : ℕ) (h : Part c w) where
       let o = ap (λ (y : ℕ). c * y) (div-add-mod' f 32768) in
       divided-is _ (c * f) w (omega arith) (mod-lt rest (h .some))
 
-  -- the same of the division r of the digits before it, with what keeps it within 64 bits
+  -- the same for the division r of the digits before it, and the bounds that keep it within 64 bits
   module _ (r : Divided) (e : r ≡ divided front w) where
     pub rest-fits : r .remainder * 32768 + digit < 2 ^ 64
     rest-fits =

@@ -1,5 +1,6 @@
 // Money: values, penalties, compensation, cash for a part, charges, the matching tolerance, the cap, and quotients of
-// products. All amounts are cents. The requires state the limits of refusals 2 and 3, within which nothing overflows.
+// products. All amounts are cents. The `requires` clauses state the limits of refusals 2 and 3, within which nothing
+// overflows.
 ghost use mathlib.Core.Path.{_≡_};
 ghost use Prim.Native.Nat.{_+_, _-_, _*_, _/_, _≤_, _<_, _^_};
 ghost use Rattle.amounts.specs.Amounts.{mostQuantity, mostAmount, mostClosePrice, mostOfferPrice, mostRate, value, penalty, compensation, dueFor, cash, charge, tolerance, amountsMatch, aboveCap};
@@ -11,7 +12,7 @@ pub struct Divided {
     pub remainder: u64,
 }
 
-// What q units are worth at a price.
+// Returns what q units are worth at a price.
 pub fn value_of(q: u64, price: u64) -> u64
     requires { ⌜ (q ≤ mostQuantity) × (price ≤ mostOfferPrice) ⌝ }
     ensures { λ r. ⌜ r ≡ value q price ⌝ }
@@ -19,7 +20,7 @@ pub fn value_of(q: u64, price: u64) -> u64
     q * price
 }
 
-// The quotient to the nearest, a half up.
+// Returns the quotient, rounded to the nearest whole number; a half goes up.
 pub fn rounded_quotient(n: u64, d: u64) -> u64
     requires { ⌜ (0 < d) × (n < 2 ^ 63) × (d < 2 ^ 63) ⌝ }
     ensures { λ r. ⌜ r ≡ rounded n d ⌝ }
@@ -27,7 +28,7 @@ pub fn rounded_quotient(n: u64, d: u64) -> u64
     (n + d / 2) / d
 }
 
-// The penalty of one day on q units outstanding.
+// Returns the penalty of one day on q units that are outstanding.
 pub fn penalty_of(q: u64, price: u64, rate: u64) -> u64
     requires { ⌜ (q ≤ mostQuantity) × (price ≤ mostClosePrice) × (rate ≤ mostRate) ⌝ }
     ensures { λ r. ⌜ r ≡ penalty q price rate ⌝ }
@@ -35,7 +36,7 @@ pub fn penalty_of(q: u64, price: u64, rate: u64) -> u64
     rounded_quotient(value_of(q, price) * rate, 1_000_000)
 }
 
-// The cash compensation for q units.
+// Returns the compensation for q units.
 pub fn compensation_of(q: u64, price: u64) -> u64
     requires { ⌜ (q ≤ mostQuantity) × (price ≤ mostClosePrice) ⌝ }
     ensures { λ r. ⌜ r ≡ compensation q price ⌝ }
@@ -43,7 +44,7 @@ pub fn compensation_of(q: u64, price: u64) -> u64
     rounded_quotient(value_of(q, price), 10)
 }
 
-// What is due of an amount once t of q units are settled.
+// Returns what is due of an amount once t of q units are settled.
 fn due_for(amount: u64, q: u64, t: u64) -> u64
     requires { ⌜ (amount ≤ mostAmount) × (0 < q) × (q ≤ mostQuantity) × (t ≤ q) ⌝ }
     ensures { λ r. ⌜ r ≡ dueFor amount q t ⌝ }
@@ -51,7 +52,7 @@ fn due_for(amount: u64, q: u64, t: u64) -> u64
     amount * t / q
 }
 
-// The cash for the units from s to t of q.
+// Returns the cash of a delivery: s of q units were settled before it, and t are settled after it.
 pub fn cash_for(amount: u64, q: u64, s: u64, t: u64) -> u64
     requires { ⌜ (amount ≤ mostAmount) × (0 < q) × (q ≤ mostQuantity) × (s ≤ t) × (t ≤ q) ⌝ }
     ensures { λ r. ⌜ r ≡ cash amount q s t ⌝ }
@@ -59,7 +60,7 @@ pub fn cash_for(amount: u64, q: u64, s: u64, t: u64) -> u64
     due_for(amount, q, t) - due_for(amount, q, s)
 }
 
-// The charge for q units bought at a price, with the cash due for them.
+// Returns the charge for q units that are bought at a price, where this cash is due for them.
 pub fn charge_for(q: u64, price: u64, cash: u64) -> u64
     requires { ⌜ (q ≤ mostQuantity) × (price ≤ mostOfferPrice) ⌝ }
     ensures { λ r. ⌜ r ≡ charge q price cash ⌝ }
@@ -68,14 +69,14 @@ pub fn charge_for(q: u64, price: u64, cash: u64) -> u64
     if cash < worth { worth - cash } else { 0 }
 }
 
-// The tolerance of a match.
+// Returns the tolerance of a match.
 pub fn tolerance_of(delivering: u64) -> u64
     ensures { λ r. ⌜ r ≡ tolerance delivering ⌝ }
 {
     if delivering <= 10_000_000 { 200 } else { 2_500 }
 }
 
-// Whether two amounts are within the tolerance.
+// Says whether two amounts are within the tolerance.
 pub fn amounts_match(delivering: u64, receiving: u64) -> bool
     ensures { λ r. ⌜ r ≡ amountsMatch delivering receiving ⌝ }
 {
@@ -86,7 +87,7 @@ pub fn amounts_match(delivering: u64, receiving: u64) -> bool
     delivering - receiving <= most
 }
 
-// Whether an offer's price is above the cap.
+// Says whether the price of an offer is above the cap.
 pub fn above_cap(price: u64, grace_price: u64) -> bool
     requires { ⌜ (price ≤ mostOfferPrice) × («grace_price» ≤ mostClosePrice) ⌝ }
     ensures { λ r. ⌜ r ≡ aboveCap price «grace_price» ⌝ }
@@ -94,8 +95,8 @@ pub fn above_cap(price: u64, grace_price: u64) -> bool
     108 * grace_price < 100 * price
 }
 
-// The quotient and the remainder of part × factor by whole. The product may pass 64 bits, so the factor is taken
-// digit by digit in base 32,768, as in long division: one digit less at each call.
+// Returns the quotient and the remainder of part × factor by whole. The product may exceed 64 bits. So the function
+// takes the factor digit by digit in base 32,768, as in long division: each call has one digit less.
 pub fn product_divided(part: u64, factor: u64, whole: u64) -> Divided
     requires { ⌜ Part part whole ⌝ }
     ensures { λ r. ⌜ r ≡ divided (part * factor) whole ⌝ }

@@ -1,4 +1,4 @@
--- Cases: of a test, of an index and the ones below it.
+-- Cases of a test, and of an index.
 use Prim.Native.Nat.{ℕ, suc, _≤_, _<_}
 use native.Mathlib.Omega.{arith}
 use mathlib.Core.Path.{_≡_, refl, sym, _∙_}
@@ -10,11 +10,11 @@ use lib.ListN.{length, length-map}
 use borrow.Author.Tests.{ltb-true, ltb-false}
 use Rattle.basics.specs.Choice.{pick}
 
--- a test is not both
+-- a test does not both fail and hold
 pub never : false ≡ true → ⊥
 never e = let z : _≡_ {A = ℕ} 0 1 = cc in omega arith
 
--- a fact of a choice, shown for each way that the test can go
+-- A fact about a choice follows if it is shown for each outcome of the test.
 pub pick-case : {A : Type 0} (P : A → Type 0) (t : Bool) (a b : A) → (t ≡ true → P a) → (t ≡ false → P b) → P (pick t a b)
 pick-case P true a b f g = f refl
 pick-case P false a b f g = g refl
@@ -27,7 +27,7 @@ last-or-below k n h = by (ltb k n) refl
     by true e = inr (ltb-true k n e)
     by false e = let l = ltb-false k n e in inl (omega arith)
 
--- two numbers are in order one way or the other
+-- one of two numbers is below the other, or it is not
 pub below-or-not : (a b : ℕ) → (a < b) ⊎ (b ≤ a)
 below-or-not a b = by (ltb a b) refl
   where
@@ -35,11 +35,11 @@ below-or-not a b = by (ltb a b) refl
     by true e = inl (ltb-true a b e)
     by false e = inr (ltb-false a b e)
 
--- the length of an array of structs, which the checker states of the array as it lies in memory
+-- The length of an array of structs. The checker states it of the array as it lies in memory.
 pub length-mapped : {X Y : Type 0} (f : X → Y) (l : List X) (n : ℕ) → length (map f l) ≡ n → length l ≡ n
 length-mapped f l n e = sym (length-map l f) ∙ e
 
--- neither of two tests holds
+-- where "or" fails, both tests fail
 pub or-false : {a b : Bool} → (a || b) ≡ false → (a ≡ false) × (b ≡ false)
 or-false {a} {b} = by a b
   where
@@ -47,7 +47,7 @@ or-false {a} {b} = by a b
     by true t e = absurd (never (sym e))
     by false t e = (refl, e)
 
--- both of two tests hold
+-- where "and" holds, both tests hold
 pub and-true : (a b : Bool) → (a && b) ≡ true → (a ≡ true) × (b ≡ true)
 and-true true b e = (refl, e)
 and-true false b e = absurd (never e)

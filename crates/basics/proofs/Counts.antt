@@ -1,4 +1,4 @@
--- Counts of the numbers below n that pass a test, and sums over a table by an index.
+-- Laws on how many of the numbers below n pass a test, and on sums over a table by an index.
 use Prim.Native.Nat.{ℕ, zero, suc, _+_, _*_, _/_, _%_, _≤_, _<_}
 use native.Mathlib.Nat.{add-mul, mul-add, div-add-mod', zero-mul, one-mul}
 use native.Mathlib.Numerals.{add-one}
@@ -16,11 +16,11 @@ use Rattle.basics.proofs.TableSums.{sum-more}
 use Rattle.basics.specs.Choice.{pick}
 use Rattle.basics.specs.Lists.{total, sum, table, tableFrom, countBelow}
 
--- a count, and one more if a test passes
+-- a count, raised by one if a test passes
 abbrev pub more : Bool → ℕ → ℕ
 more t n = pick t (n + 1) n
 
--- a count is at most the numbers that there are
+-- no more numbers are counted than there are
 pub count-within : (n : ℕ) (p : ℕ → Bool) → countBelow n p ≤ n
 unfolding countBelow
 count-within zero p = omega arith
@@ -30,7 +30,7 @@ count-within (suc n) p = by (p n) (count-within n p)
     by true h = omega arith
     by false h = omega arith
 
--- a count with one number more, which passes or not
+-- the count over one number more, by whether that number passes
 pub count-next : (n : ℕ) (p : ℕ → Bool) (t : Bool) → p n ≡ t → countBelow (n + 1) p ≡ more t (countBelow n p)
 unfolding countBelow
 count-next n p t e = rw (add-one, e)
@@ -55,7 +55,7 @@ count-most (suc n) p q h = by (p n) (q n) refl refl (count-most n p q (λ k l. h
     by false true e f m = omega arith
     by false false e f m = m
 
--- and more, if it passes somewhere where the other does not
+-- it counts more if it passes for some number for which the other does not
 pub count-less : (n : ℕ) (p q : ℕ → Bool) → ((k : ℕ) → k < n → p k ≡ true → q k ≡ true) →
     (j : ℕ) → j < n → p j ≡ false → q j ≡ true → countBelow n p < countBelow n q
 unfolding countBelow
@@ -78,7 +78,7 @@ count-less (suc n) p q h j l e f =
     later false true x y m = omega arith
     later false false x y m = m
 
--- sums of two tables that agree
+-- two tables that agree have the same sum
 pub sum-same : (n : ℕ) (f g : ℕ → ℕ) → ((k : ℕ) → k < n → f k ≡ g k) → sum (table n f) ≡ sum (table n g)
 unfolding total tableFrom
 sum-same zero f g h = refl
@@ -88,7 +88,7 @@ sum-same (suc n) f g h =
     let l = h n (omega arith) in
     omega arith
 
--- one for each that passes a test: the count
+-- the sum of 1 for each number that passes a test is the count
 pub sum-ones : (n : ℕ) (p : ℕ → Bool) → sum (table n (λ (k : ℕ). pick (p k) 1 0)) ≡ countBelow n p
 unfolding total tableFrom countBelow
 sum-ones zero p = refl
@@ -99,7 +99,7 @@ sum-ones (suc n) p = sum-more n (λ (k : ℕ). pick (p k) 1 0) ∙ by (p n) (sum
     by true e = omega arith
     by false e = omega arith
 
--- a sum of numbers of at most b is at most b for each number above 0
+-- if no number is above b, their sum is at most b times the count of those above 0
 pub sum-counted : (n : ℕ) (f : ℕ → ℕ) (b : ℕ) → ((k : ℕ) → f k ≤ b) →
     sum (table n f) ≤ countBelow n (λ (k : ℕ). ltb 0 (f k)) * b
 unfolding total tableFrom countBelow
@@ -116,7 +116,7 @@ sum-counted (suc n) f b h =
         omega (arith, one-mul b)
     by false e s i = let z = ltb-false 0 (f n) e in omega arith
 
--- quotients and remainders of the products c × g by t are together all of the products
+-- The quotients of the products c × g by t, times t, and their remainders add up to the sum of the products.
 pub sum-parts : (n c t : ℕ) (g : ℕ → ℕ) →
     sum (table n (λ (k : ℕ). c * g k / t)) * t + sum (table n (λ (k : ℕ). c * g k % t)) ≡ c * sum (table n g)
 unfolding total tableFrom
@@ -132,6 +132,6 @@ sum-parts (suc n) c t g =
     let y = ap (λ (z : ℕ). c * z) (sum-more n g) in
     omega arith
 
--- the sum of a list is that of the table of its elements
+-- the sum of a list is the sum of the table of its elements
 pub sum-listed : (xs : List ℕ) (n : ℕ) → length xs ≡ n → sum (table n (λ (k : ℕ). getD xs k 0)) ≡ sum xs
 sum-listed xs n h = ap sum (sym (is-table n (λ (k : ℕ). getD xs k 0) xs 0 h (λ i l. refl)))

@@ -1,4 +1,5 @@
--- Parts of a list: its front, what lies from one place up to another, and the elements up to the first that is a number.
+-- Laws on parts of a list: its front, the elements from one place up to another, and those up to the first that equals
+-- a given number.
 use Prim.Native.Nat.{ℕ, zero, suc, _+_, _-_, _≤_, _<_}
 use native.Mathlib.Omega.{arith}
 use native.Mathlib.Numerals.{add-one}
@@ -14,59 +15,59 @@ use Rattle.basics.specs.Lists.{between, upTo}
 use Rattle.basics.proofs.Cases.{pick-case}
 
 -- ---- fronts
--- what is cut already is not cut otherwise with more behind it
+-- the front of a list may be cut twice
 pub take-again : {A : Type 0} (n : ℕ) (xs ys : List A) → take n (take n xs ++ ys) ≡ take n (xs ++ ys)
 take-again zero xs ys = refl
 take-again (suc n) [] ys = refl
 take-again (suc n) (x ∷ xs) ys = ap (λ l. x ∷ l) (take-again n xs ys)
 
--- the front of a list without its first elements
+-- to leave out the first k elements of a front is to take a front of the other elements
 drop-take : {A : Type 0} (k m n : ℕ) (xs : List A) → n ≡ k + m → drop k (take n xs) ≡ take m (drop k xs)
 drop-take zero m n xs e = let same : n ≡ m = omega arith in ap (λ (j : ℕ). take j xs) same
 drop-take (suc k) m zero xs e = absurd (omega arith)
 drop-take (suc k) m (suc n) [] e = sym (take-nil m)
 drop-take (suc k) m (suc n) (x ∷ xs) e = drop-take k m n xs (omega arith)
 
--- the first element from a place on, and the others
+-- from a place on there are the element at that place and then the others
 pub drop-more : {A : Type 0} (xs : List A) (at : ℕ) (d : A) → at < length xs → drop at xs ≡ getD xs at d ∷ drop (at + 1) xs
 drop-more xs at d h = rw (add-one at) (drop-cons xs at d h)
 
 -- ---- from one place up to another
--- nothing lies from a place up to one that is not behind it
+-- no elements lie between a place and one that is not behind it
 pub between-none : (xs : List ℕ) (at to : ℕ) → to ≤ at → between at to xs ≡ []
 between-none xs at to h = let e : to - at ≡ 0 = omega arith in rw e
 
--- the first element from a place up to one behind it, and the others
+-- between two places there are the element at the first and then the others
 pub between-more : (xs : List ℕ) (at to : ℕ) → at < to → to ≤ length xs
     → between at to xs ≡ getD xs at 0 ∷ between (at + 1) to xs
 between-more xs at to h l =
     let e : to - at ≡ suc (to - (at + 1)) = omega arith in
     rw (e, drop-more xs at 0 (omega arith))
 
--- behind the first elements are those up to the same place
+-- without its first k elements, a part begins k places later
 pub between-behind : (from to k : ℕ) (xs : List ℕ) → from + k ≤ to → drop k (between from to xs) ≡ between (from + k) to xs
 between-behind from to k xs h =
     let e : to - from ≡ k + (to - (from + k)) = omega arith in
     drop-take k (to - (from + k)) (to - from) (drop from xs) e
     ∙ ap (take (to - (from + k))) (drop-drop k from xs)
 
--- ---- up to the first that is a number
--- of no elements there are none
+-- ---- the elements ahead of the first that equals a given number
+-- an empty list has nothing up to a number
 pub up-past : (x : ℕ) {xs : List ℕ} → xs ≡ [] → upTo x xs ≡ []
 unfolding upTo
 up-past x e = rw e
 
--- the number ends them
+-- where the list begins with the number, nothing is ahead of it
 pub up-ends : (x : ℕ) {y : ℕ} {xs ys : List ℕ} → xs ≡ y ∷ ys → y ≡ x → upTo x xs ≡ []
 unfolding upTo
 up-ends x {y} e s = rw (e, eq-eqb y x s)
 
--- any other is one of them
+-- where the list begins with another number, this one is the first of the elements ahead
 pub up-goes-on : (x : ℕ) {y : ℕ} {xs ys : List ℕ} → xs ≡ y ∷ ys → (y ≡ x → ⊥) → upTo x xs ≡ y ∷ upTo x ys
 unfolding upTo
 up-goes-on x {y} e s = rw (e, ne-eqb y x s)
 
--- they are no more than those that they are taken from
+-- the elements ahead are no more than the list has
 pub up-most : (x : ℕ) (xs : List ℕ) → length (upTo x xs) ≤ length xs
 unfolding upTo
 up-most x [] = omega arith
@@ -75,7 +76,7 @@ up-most x (y ∷ ys) =
     (λ e. omega arith)
     (λ e. omega (arith, up-most x ys))
 
--- they are the front of them
+-- the elements ahead are the front of the list
 pub up-taken : (x : ℕ) (xs : List ℕ) → take (length (upTo x xs)) xs ≡ upTo x xs
 unfolding upTo
 up-taken x [] = refl
@@ -84,7 +85,7 @@ up-taken x (y ∷ ys) =
     (λ e. refl)
     (λ e. ap (λ (l : List ℕ). y ∷ l) (up-taken x ys))
 
--- without the number they are all
+-- if they are as many as the list has, they are the whole list
 pub up-all : (x : ℕ) (xs : List ℕ) → length xs ≤ length (upTo x xs) → upTo x xs ≡ xs
 unfolding upTo
 up-all x [] h = refl
@@ -95,7 +96,7 @@ up-all x (y ∷ ys) h = by (eqb y x) h (up-all x ys)
     by true g more = absurd (omega arith)
     by false g more = ap (λ (l : List ℕ). y ∷ l) (more (omega arith))
 
--- with it, it stands behind them, and then the others
+-- If they are fewer, the list is these elements, then the number, and then the others.
 pub up-split : (x : ℕ) (xs : List ℕ) → length (upTo x xs) < length xs
     → xs ≡ upTo x xs ++ x ∷ drop (suc (length (upTo x xs))) xs
 unfolding upTo

@@ -1,4 +1,4 @@
--- Laws that belong to no one chapter of the rules.
+-- Laws that belong to no chapter of the rules.
 pub mod Cases
 pub mod Counts
 pub mod Everywhere

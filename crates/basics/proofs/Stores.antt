@@ -1,4 +1,4 @@
--- Stores in a list, one after another.
+-- Laws on storing several values in a list, one after another.
 use Prim.Native.Nat.{ℕ, zero, suc, _+_, _≤_}
 use native.Mathlib.Nat.{add-zero, zero-add, add-suc, suc-add}
 use native.Mathlib.Omega.{arith}
@@ -7,7 +7,7 @@ use mathlib.Core.List.{List, [], _∷_, _++_}
 use lib.ListN.{length, set, take, drop, length-set}
 use lib.Seq.{sets, sets-eq, set-out, take-append-seam}
 
--- stores behind stores
+-- to store two lists one behind the other is to store them together
 pub sets-append : {A : Type 0} (l : List A) (i : ℕ) (xs ys : List A)
     → sets l i (xs ++ ys) ≡ sets (sets l i xs) (i + length xs) ys
 sets-append l i [] ys = ap (λ (n : ℕ). sets l n ys) (sym (add-zero i))
@@ -15,21 +15,21 @@ sets-append l i (x ∷ xs) ys =
     sets-append (set l i x) (suc i) xs ys
     ∙ ap (λ (n : ℕ). sets (sets (set l i x) (suc i) xs) n ys) (suc-add i (length xs) ∙ sym (add-suc i (length xs)))
 
--- nothing is stored past the end
+-- nothing is stored past the end of the list
 pub sets-past : {A : Type 0} (l : List A) (i : ℕ) (vs : List A) → length l ≤ i → sets l i vs ≡ l
 sets-past l i [] h = refl
 sets-past l i (v ∷ vs) h = rw (set-out l i v h) (sets-past l (suc i) vs (omega arith))
 
--- what has no place in a list is not stored in it
+-- values that have no place in the list may be left out
 pub sets-cut : {A : Type 0} (l : List A) (i n : ℕ) (vs : List A) → length l ≤ i + n → sets l i (take n vs) ≡ sets l i vs
 sets-cut l i zero vs h = sym (sets-past l i vs (omega arith))
 sets-cut l i (suc n) [] h = refl
 sets-cut l i (suc n) (v ∷ vs) h = sets-cut (set l i v) (suc i) n vs (omega (arith, length-set l i v))
 
--- what is stored in front is read back
+-- values that are stored at the front can be read back
 pub sets-front : {A : Type 0} (l vs : List A) → length vs ≤ length l → take (length vs) (sets l 0 vs) ≡ vs
 sets-front l vs h = rw (sets-eq vs l 0 (omega arith)) (take-append-seam vs (drop (0 + length vs) l))
 
--- what is stored in front stands ahead of what was behind it
+-- after values are stored at the front, the list is these values and then what was behind them
 pub sets-ahead : {A : Type 0} (l vs : List A) → length vs ≤ length l → sets l 0 vs ≡ vs ++ drop (length vs) l
 sets-ahead l vs h = sets-eq vs l 0 (omega arith) ∙ ap (λ (k : ℕ). vs ++ drop k l) (zero-add (length vs))

@@ -1,4 +1,4 @@
--- Sums over lists.
+-- Laws on sums over lists.
 use Prim.Native.Nat.{ℕ, zero, suc, _+_, _*_, _≤_, _<_}
 use native.Mathlib.Nat.{suc-mul}
 use native.Mathlib.Omega.{arith}
@@ -10,20 +10,20 @@ use lib.Seq.{drop-cons}
 use Rattle.basics.specs.Lists.{total, sum, Every}
 use Rattle.basics.specs.Lists.Every.{nobody, also}
 
--- the sum over a list and another behind it
+-- the sum over two lists together is the sum over the one and over the other
 pub total-append : {A : Type 0} (f : A → ℕ) (xs ys : List A) → total f (xs ++ ys) ≡ total f xs + total f ys
 unfolding total
 total-append f [] ys = omega arith
 total-append f (x ∷ xs) ys = omega (arith, total-append f xs ys)
 
--- an element is at most the sum
+-- no element is above the sum
 pub one-most : (xs : List ℕ) (k : ℕ) → getD xs k 0 ≤ sum xs
 unfolding total
 one-most [] k = omega arith
 one-most (x ∷ xs) zero = omega arith
 one-most (x ∷ xs) (suc k) = let e = one-most xs k in omega arith
 
--- a sum of elements that are at most b
+-- if no element is above b, the sum is at most b times their number
 pub sum-most : (xs : List ℕ) (b : ℕ) → ((k : ℕ) → k < length xs → getD xs k 0 ≤ b) → sum xs ≤ length xs * b
 unfolding total
 sum-most [] b h = omega arith
@@ -33,7 +33,7 @@ sum-most (x ∷ xs) b h =
     let g = suc-mul (length xs) b in
     omega arith
 
--- what is left to add, with one element less
+-- the sum from a place on is the element at that place and the sum behind it
 pub rest-of : (xs : List ℕ) (i : ℕ) → i < length xs → sum (drop i xs) ≡ getD xs i 0 + sum (drop (i + 1) xs)
 unfolding total
 rest-of xs i h = rw (add-one, drop-cons xs i 0 h)
@@ -42,7 +42,7 @@ pub none-left : (xs : List ℕ) (i : ℕ) → length xs ≤ i → sum (drop i xs
 unfolding total
 none-left xs i h = rw (drop-of-length-le xs {i = i} h)
 
--- a sum with one element changed
+-- how a sum changes with one element
 pub total-set : {A : Type 0} (f : A → ℕ) (xs : List A) (i : ℕ) (v d : A) → i < length xs →
     total f (set xs i v) + f (getD xs i d) ≡ total f xs + f v
 unfolding total
@@ -50,7 +50,7 @@ total-set f [] i v d h = absurd (omega arith)
 total-set f (x ∷ xs) zero v d h = omega arith
 total-set f (x ∷ xs) (suc i) v d h = omega (arith, total-set f xs i v d (omega arith))
 
--- a sum of zeros
+-- a sum of zeros is 0
 pub total-none : {A : Type 0} (f : A → ℕ) {xs : List A} → Every (λ x. f x ≡ 0) xs → total f xs ≡ 0
 unfolding total
 total-none f nobody = refl

@@ -1,4 +1,4 @@
--- Sums over a table by an index.
+-- Laws on sums over a table by an index.
 use Prim.Native.Nat.{ℕ, zero, suc, _+_, _≤_}
 use native.Mathlib.Omega.{arith}
 use native.Mathlib.Nat.{add-zero, zero-add}
@@ -18,38 +18,38 @@ more-from k (suc n) f = omega (arith, more-from (suc k) n f, ap f (shift k n))
     shift : (k n : ℕ) → suc k + n ≡ k + suc n
     shift k n = omega arith
 
--- the sum over the numbers up to n is the sum over those below n, and what belongs to n
+-- the sum of a table with one entry more is the old sum and that entry
 pub sum-more : (n : ℕ) (f : ℕ → ℕ) → sum (table (suc n) f) ≡ sum (table n f) + f n
 sum-more n f = omega (arith, more-from 0 n f, ap f (zero-add n))
 
--- a sum is at most the sum of numbers that are each at least as large
+-- where no entry is above that of another table, the sum is not above the other sum
 pub sum-mono : (k n : ℕ) (f g : ℕ → ℕ) → ((i : ℕ) → f i ≤ g i) → sum (tableFrom k n f) ≤ sum (tableFrom k n g)
 unfolding tableFrom total
 sum-mono k zero f g h = omega arith
 sum-mono k (suc n) f g h = omega (arith, sum-mono (suc k) n f g h, h k)
 
--- the sum of sums is the sum of each
+-- the sum of a table of sums is the sum of both tables
 pub sum-both : (k n : ℕ) (f g : ℕ → ℕ)
     → sum (tableFrom k n (λ i. f i + g i)) ≡ sum (tableFrom k n f) + sum (tableFrom k n g)
 unfolding tableFrom total
 sum-both k zero f g = omega arith
 sum-both k (suc n) f g = omega (arith, sum-both (suc k) n f g)
 
--- a sum of zeros
+-- a sum of zeros is 0
 pub sum-none : (k n : ℕ) → sum (tableFrom k n (λ i. 0)) ≡ 0
 unfolding tableFrom total
 sum-none k zero = refl
 sum-none k (suc n) = omega (arith, sum-none (suc k) n)
 
--- 1 for the number o, 0 for every other
+-- 1 at the index o, and 0 at every other
 abbrev pub oneAt : ℕ → ℕ → ℕ
 oneAt o i = pick (eqb o i) 1 0
 
--- which is at most 1
+-- this is at most 1
 pub one-at-most : (o i : ℕ) → oneAt o i ≤ 1
 one-at-most o i = pick-case (λ (n : ℕ). n ≤ 1) (eqb o i) 1 0 (λ e. omega arith) (λ e. omega arith)
 
--- a number is met once if it is to come, else not at all
+-- from k on, the index o comes up once, or not at all if it is below k
 met-from : (o k n : ℕ) → sum (tableFrom k n (oneAt o)) ≤ pick (ltb o k) 0 1
 unfolding tableFrom total
 met-from o k zero = omega arith
@@ -68,7 +68,7 @@ met-from o k (suc n) = by (eqb o k) (ltb o k) refl refl (met-from o (suc k) n)
     by false true e f h = omega (arith, rw (lt-ltb o (suc k) (omega (arith, ltb-true o k f))) at h)
     by false false e f h = omega (arith, rw (le-ltb o (suc k) (above e f)) at h)
 
--- a number is met at most once
+-- the index o comes up at most once
 pub sum-once : (n o : ℕ) → sum (table n (oneAt o)) ≤ 1
 sum-once n o =
     let h = met-from o 0 n in

@@ -1,4 +1,4 @@
--- Tables by an index.
+-- Laws on tables by an index.
 use Prim.Native.Nat.{ℕ, zero, suc, _+_, _-_, _<_}
 use native.Mathlib.Nat.{zero-add}
 use native.Mathlib.Omega.{arith}
@@ -27,12 +27,12 @@ tableFrom-at k (suc n) f (suc i) d h = tableFrom-at (suc k) n f i d (omega arith
 pub table-at : {A : Type 0} (n : ℕ) (f : ℕ → A) (i : ℕ) (d : A) → i < n → getD (table n f) i d ≡ f i
 table-at n f i d h = tableFrom-at 0 n f i d h ∙ ap f (zero-add i)
 
--- a list that has f of each index is the table of f
+-- a list that has f i at each index i is the table of f
 pub is-table : {A : Type 0} (n : ℕ) (f : ℕ → A) (xs : List A) (d : A) → length xs ≡ n → ((i : ℕ) → i < n → getD xs i d ≡ f i) → xs ≡ table n f
 is-table n f xs d h e =
     ext-getD d xs (table n f) (h ∙ sym (table-length n f)) (λ i l. e i (omega arith) ∙ sym (table-at n f i d (omega arith)))
 
--- a list that is filled from the front, with one element more
+-- A list holds f of each index below i. With f i stored at i it holds f of each index up to i.
 pub filled-more : {A : Type 0} (xs : List A) (d : A) (i : ℕ) (v : A) (f : ℕ → A) → i < length xs → ((k : ℕ) → k < i → getD xs k d ≡ f k) → v ≡ f i →
     (k : ℕ) → k < i + 1 → getD (set xs i v) k d ≡ f k
 filled-more xs d i v f l h e k b =

@@ -1,7 +1,7 @@
--- The choice by a test.
+-- The choice between two values by a test.
 use mathlib.Core.Bool.{Bool, true, false}
 
--- a where the test holds, else b
+-- This is a where the test holds, and b where it does not.
 abbrev pub pick : {A : Type 0} → Bool → A → A → A
 pick true a b = a
 pick false a b = b

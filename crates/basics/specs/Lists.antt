@@ -1,4 +1,4 @@
--- Lists: sums, tables by an index, and what holds of every element or of every two.
+-- Sums over lists, tables by an index, and facts about every element or every two elements of a list.
 use Prim.Native.Nat.{ℕ, zero, suc, _+_, _-_}
 use mathlib.Core.Bool.{Bool}
 use mathlib.Core.List.{List, [], _∷_, _++_}
@@ -6,7 +6,7 @@ use lib.Dec.{eqb}
 use lib.ListN.{length, take, drop, replicate}
 use Rattle.basics.specs.Choice.{pick}
 
--- the sum of a number of each element
+-- f gives a number for each element; this is the sum of these numbers
 unfoldable pub total : {A : Type 0} → (A → ℕ) → List A → ℕ
 total f [] = 0
 total f (x ∷ xs) = f x + total f xs
@@ -15,12 +15,12 @@ total f (x ∷ xs) = f x + total f xs
 abbrev pub sum : List ℕ → ℕ
 sum = total (λ n. n)
 
--- f of k, k + 1 and so on, n of them
+-- the list of f k, f (k + 1) and so on, with n elements
 unfoldable pub tableFrom : {A : Type 0} → ℕ → ℕ → (ℕ → A) → List A
 tableFrom k zero f = []
 tableFrom k (suc n) f = f k ∷ tableFrom (suc k) n f
 
--- f of 0, 1 and so on, n of them
+-- the list of f 0, f 1 and so on, with n elements
 abbrev pub table : {A : Type 0} → ℕ → (ℕ → A) → List A
 table = tableFrom 0
 
@@ -29,17 +29,17 @@ unfoldable pub countBelow : ℕ → (ℕ → Bool) → ℕ
 countBelow zero p = 0
 countBelow (suc n) p = pick (p n) (countBelow n p + 1) (countBelow n p)
 
--- every element
+-- P holds of every element
 pub data Every {A : Type 0} (P : A → Type 0) : List A → Type 0 where
   nobody : Every P []
   also : {x : A} {xs : List A} → P x → Every P xs → Every P (x ∷ xs)
 
--- every two elements, the one ahead and the one behind
+-- R holds of every two elements, the one ahead and the one behind it
 pub data Sorted {A : Type 0} (R : A → A → Type 0) : List A → Type 0 where
   empty : Sorted R []
   ahead : {x : A} {xs : List A} → Every (R x) xs → Sorted R xs → Sorted R (x ∷ xs)
 
--- a list that fills the front of n places; each place behind it holds z
+-- a list in the front of n places; each place behind it holds z
 abbrev pub padded : {A : Type 0} → ℕ → A → List A → List A
 padded n z xs = xs ++ replicate (n - length xs) z
 

@@ -1,8 +1,8 @@
 -- What a Close leaves: a valid book, of which each reached obligation is a day older, and lines that fit the list.
-use Prim.Native.Nat.{ℕ, _-_, _*_, _≤_, _<_}
+use Prim.Native.Nat.{ℕ, _*_, _≤_, _<_}
 use native.Mathlib.Omega.{arith}
 use mathlib.Core.Path.{_≡_, refl, sym, ap, subst, _∙_}
-use mathlib.Core.Bool.{true, false≢true}
+use mathlib.Core.Bool.{true}
 use mathlib.Core.List.{List}
 use mathlib.Core.Logic.{⊎-elim}
 use lib.ListN.{length}
@@ -14,9 +14,9 @@ use Rattle.calendar.specs.declared.Day.{Day}
 use Rattle.calendar.specs.declared.NextDay.{NextDay}
 use Rattle.calendar.specs.declared.NextDay.the-variants.{At, Never}
 use Rattle.calendar.specs.Closed.{listed}
-use Rattle.calendar.specs.Days.{clearing, ageAt}
+use Rattle.calendar.specs.Days.{ageAt}
 use Rattle.calendar.proofs.Next.{FirstAfter, next-at}
-use Rattle.calendar.proofs.Ages.{age-early, age-next}
+use Rattle.calendar.proofs.Ages.{age-next, age-to-come}
 use Rattle.amounts.specs.Amounts.{mostClosePrice, mostRate}
 use Rattle.ledger.specs.declared.Obligation.{Obligation}
 use Rattle.ledger.specs.declared.Ledger.{Ledger}
@@ -31,13 +31,14 @@ use Rattle.closing.proofs.Parts.{Goes, closed-goes, last-none}
 use Rattle.closing.proofs.Together.{rows-length, rows-closed, lines-most}
 use Rattle.closing.proofs.Fines.{Charged, charged-up-to}
 use Rattle.refusals.specs.Refusals.{answer}
-use Rattle.refusals.specs.Calls.{closeRefusals, closeRefusalsIn, fewestWords, isNever}
-use Rattle.refusals.proofs.Refusals.{pass, passed, all-passed, passed-ahead, ahead-passed, done-by, refused-with, outcome-case}
-use Rattle.refusals.proofs.Ending.{Given, close-given, close-some}
+use Rattle.refusals.specs.Calls.{closeRefusals, closeRefusalsIn, fewestWords}
+use Rattle.refusals.proofs.Refusals.{done-by, refused-with}
+use Rattle.refusals.proofs.Ending.{Given, close-given, close-at}
 use Rattle.book.specs.declared.Book.{Book}
 use Rattle.book.specs.declared.Closed.{Closed}
 use Rattle.book.specs.Book.{ageOf, Valid}
-use Rattle.book.specs.Closing.{nextDay, dayOf, dayEnd, linesOf, closedBook, closeRefused, closeNumber, close, closeWords}
+use Rattle.book.specs.Closing.{nextDay, dayEnd, linesOf, closedBook, closeRefused, closeNumber, closeDone, closeBy, close, closeWords}
+use Rattle.book.proofs.Outcomes.{close-case}
 
 module _ (b : Book) (v : Valid b) (price rate : ℕ) (p : price ≤ mostClosePrice) (r : rate ≤ mostRate) where
   abbrev d : DayEnd
@@ -88,14 +89,6 @@ module _ (b : Book) (v : Valid b) (price rate : ℕ) (p : price ≤ mostClosePri
     abbrev first : FirstAfter (listed (b .closed)) (b .today .0) (next .0)
     first = next-at (listed (b .closed)) (b .today) next q .0
 
-    -- an obligation whose day is not reached is due on the next clearing day at the earliest
-    not-before : (j : Day) → clearing (listed (b .closed)) j ≡ true → b .today .0 < j .0 → next .0 ≤ j .0
-    not-before j c h =
-        ⊎-elim
-        (λ (z : j .0 < next .0). absurd (false≢true (sym (first .first (j .0) h (omega arith)) ∙ c)))
-        (λ (z : next .0 ≤ j .0). z)
-        (below-or-not (j .0) (next .0))
-
     -- the age of an obligation after the Close
     abbrev older : Obligation → ℕ
     older o = ageAt (listed (b .closed)) (o .day) next .0
@@ -109,7 +102,7 @@ module _ (b : Book) (v : Valid b) (price rate : ℕ) (p : price ≤ mostClosePri
         let young = v .young n h (omega (arith, g .later .less)) in
         let same : older (after n) ≡ older o = ap (λ (j : Day). ageAt (listed (b .closed)) j next .0) (g .later .day) in
         ⊎-elim
-        (λ (z : b .today .0 < o .day .0). omega (arith, same, age-early (listed (b .closed)) (o .day) next (not-before (o .day) (v .day-clears n h) z)))
+        (λ (z : b .today .0 < o .day .0). omega (arith, same, age-to-come (listed (b .closed)) (o .day) (b .today) next (v .day-clears n h) z q))
         (λ (z : o .day .0 ≤ b .today .0).
         let due : isDue (b .today) o ≡ true = rw (le-leb (o .day .0) (b .today .0) z, lt-ltb 0 (o .parts .outstanding) (omega (arith, g .later .less))) in
         let one = age-next (listed (b .closed)) (o .day) (b .today) next z q in
@@ -143,80 +136,60 @@ module _ (b : Book) (v : Valid b) (price rate : ℕ) (p : price ≤ mostClosePri
       accounts-near = λ m. omega (arith, charged .near m, v .accounts-near m, v .ledger-valid .few, first .later);
     }
 
--- ---- what an accepted Close was given
-pub number-given : (b : Book) (price rate : ℕ) (ws : List ℕ) → closeNumber b price rate (length ws) ≡ 0 → Given price rate (length ws)
-unfolding closeRefusals
-number-given b price rate ws e =
-    close-given price rate (length ws) (ahead-passed (closeRefusalsIn price rate (length ws)) _ (close-some price rate (length ws)) e .0)
-
-pub never-number : (b : Book) (price rate : ℕ) (ws : List ℕ) → nextDay b ≡ Never → closeNumber b price rate (length ws) ≡ 0 → ⊥
-unfolding closeRefusals
-never-number b price rate ws q e =
-    let p = ahead-passed (closeRefusalsIn price rate (length ws)) _ (close-some price rate (length ws)) e .1 in
-    false≢true (sym (passed 20 (isNever (nextDay b)) _ p refl .0) ∙ ap isNever q)
-
--- a Close that passes the refusals from its input and has a next clearing day is accepted
-pub accepted : (b : Book) (price rate : ℕ) (ws : List ℕ) (next : Day) → answer (closeRefusalsIn price rate (length ws)) ≡ 0 → nextDay b ≡ At next →
-    closeNumber b price rate (length ws) ≡ 0
-unfolding closeRefusals
-accepted b price rate ws next e q =
-    passed-ahead (closeRefusalsIn price rate (length ws)) _ (close-some price rate (length ws)) e ∙ pass 20 _ (ap isNever q) ∙ all-passed
-
 -- ---- the answer of a Close and the words of its list
 -- refused by n: the same book and the same words
 pub refused-end : (b : Book) → Valid b → (price rate n : ℕ) (ws : List ℕ) → closeNumber b price rate (length ws) ≡ n → (n ≡ 0 → ⊥) →
     (closeRefused b n ≡ close b price rate (length ws)) × ((ws ≡ closeWords b price rate ws) × Valid b)
-unfolding close closeWords
+unfolding close closeBy closeWords
 refused-end b v price rate n ws e z =
-    let rs = closeRefusals price rate (length ws) (nextDay b) in
-    (refused-with n rs _ (closeRefused b) e z, (refused-with n rs _ (λ k. ws) e z, v))
+    (by (nextDay b) e, (refused-with n (closeRefusals price rate (length ws) (nextDay b)) _ (λ k. ws) e z, v))
+  where
+    by : (t : NextDay) → answer (closeRefusals price rate (length ws) t) ≡ n → closeRefused b n ≡ closeBy b price rate (length ws) t
+    by Never e = ap (closeRefused b) (sym e)
+    by (At next) e = refused-with n (closeRefusals price rate (length ws) (At next)) _ (closeRefused b) e z
 
 -- done, with the ledger that the Close of the book's ledger gave
-module _ (b : Book) (v : Valid b) (price rate : ℕ) (ws : List ℕ) (e : closeNumber b price rate (length ws) ≡ 0) (next : Day) (q : nextDay b ≡ At next) where
+module _ (b : Book) (v : Valid b) (price rate : ℕ) (ws : List ℕ) (e : answer (closeRefusalsIn price rate (length ws)) ≡ 0) (next : Day) (q : nextDay b ≡ At next) where
   abbrev ended : Ledger → Book
   ended l = record { closed = b .closed; terms = b .terms; today = next; «close_since» = true; legs = b .legs; ledger = l }
 
   given : Given price rate (length ws)
-  given = number-given b price rate ws e
+  given = close-given price rate (length ws) e
 
   pub done-closable : Closable (dayEnd b price rate) (b .ledger) ws
   done-closable = closable b v price rate (given .price-most) (given .rate-most) ws (given .long)
 
+  -- the Close is done, with next as its next clearing day
+  close-done : closeDone b price rate next ≡ close b price rate (length ws)
+  unfolding close closeBy
+  close-done = rw q (done-by (closeRefusals price rate (length ws) (At next)) (closeDone b price rate next) (closeRefused b) (close-at price rate (length ws) (At next) next refl e))
+
   pub done-end : (l : Ledger) (count : ℕ) (ws' : List ℕ) → ClosedAs (closedLedger (dayEnd b price rate) (b .ledger)) (linesOf b price rate) l count ws ws' →
       (record { answer = 0; count = count; book = ended l } ≡ close b price rate (length ws)) × ((ws' ≡ closeWords b price rate ws) × Valid (ended l))
-  unfolding close closeWords
+  unfolding closeWords
   done-end l count ws' c =
-      let rs = closeRefusals price rate (length ws) (nextDay b) in
-      let same : _≡_ {A = Closed} (record { answer = 0; count = count; book = ended l })
-      (record { answer = 0; count = length (linesOf b price rate); book = closedBook b price rate (dayOf (nextDay b)) }) =
-      λ i. record { answer = 0; count = c .counted i; book = record { closed = b .closed; terms = b .terms; today = dayOf (sym q i); «close_since» = true; legs = b .legs; ledger = c .result i } } in (
-        same ∙ done-by rs _ (closeRefused b) e,
+      let same : _≡_ {A = Closed} (record { answer = 0; count = count; book = ended l }) (closeDone b price rate next) =
+      λ i. record { answer = 0; count = c .counted i; book = ended (c .result i) } in (
+        same ∙ close-done,
         (
-          c .words ∙ done-by rs (written (linesOf b price rate) ws) (λ k. ws) e,
+          c .words ∙ done-by (closeRefusals price rate (length ws) (nextDay b)) (written (linesOf b price rate) ws) (λ k. ws) (close-at price rate (length ws) (nextDay b) next q e),
           subst (λ (x : Ledger). Valid (ended x)) (sym (c .result)) (closed-valid b v price rate (given .price-most) (given .rate-most) next q),
         ),
       )
 
 -- a Close keeps the book valid
 pub close-valid : (b : Book) → Valid b → (price rate : ℕ) (ws : List ℕ) → Valid (close b price rate (length ws) .book)
-unfolding close
 close-valid b v price rate ws =
-    outcome-case (λ (x : Closed). Valid (x .book)) _ _ (closeRefused b) (λ k. v) (λ e. by (nextDay b) refl e)
-  where
-    by : (n : NextDay) → nextDay b ≡ n → closeNumber b price rate (length ws) ≡ 0 → Valid (closedBook b price rate (dayOf (nextDay b)))
-    by Never q e = absurd (never-number b price rate ws q e)
-    by (At next) q e =
-        subst (λ (n : NextDay). Valid (closedBook b price rate (dayOf n))) (sym q)
-        (let g = number-given b price rate ws e in closed-valid b v price rate (g .price-most) (g .rate-most) next q)
+    close-case b (λ (x : Closed) (us : List ℕ). Valid (x .book)) price rate ws (λ k z. v)
+    (λ next q e. let g = close-given price rate (length ws) e in closed-valid b v price rate (g .price-most) (g .rate-most) next q)
 
 -- the lines fit the list
 pub close-fits : (b : Book) (price rate : ℕ) (ws : List ℕ) → Valid b → 6 * close b price rate (length ws) .count ≤ length ws
-unfolding close
 close-fits b price rate ws v =
-    outcome-case (λ (x : Closed). 6 * x .count ≤ length ws) _ _ (closeRefused b) (λ k. omega arith)
-    (λ e.
+    close-case b (λ (x : Closed) (us : List ℕ). 6 * x .count ≤ length ws) price rate ws (λ k z. omega arith)
+    (λ next q e.
     omega (
       arith,
       lines-most (dayEnd b price rate) (b .ledger .obligations) (b .ledger .offers) (omega (arith, v .notice-before, v .grace-before)) (v .ledger-valid .offers-few) (b .ledger .count) (v .ledger-valid .few),
-      number-given b price rate ws e .long,
+      close-given price rate (length ws) e .long,
     ))

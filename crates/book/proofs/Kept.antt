@@ -5,8 +5,7 @@ use mathlib.Core.Path.{_≡_, refl, sym, ap, _∙_}
 use mathlib.Core.Bool.{Bool, true, false}
 use lib.Dec.{eqb}
 use borrow.Author.Tests.{ltb-false, leb-false, eqb-false, not-false}
-use Rattle.ledger.proofs.Valid.{present-below, valid-changed, valid-more, valid-offer}
-use Rattle.instructions.proofs.Fetching.{waiting-below}
+use Rattle.ledger.proofs.Valid.{valid-changed, valid-more, valid-offer}
 use Rattle.basics.specs.Choice.{pick}
 use Rattle.basics.proofs.Cases.{pick-case, or-false}
 use Rattle.basics.proofs.Places.{set-case}
@@ -32,10 +31,12 @@ use Rattle.ledger.proofs.Keeping.{new-sound, delivering-sound, wishing-sound, d
 use Rattle.book.specs.declared.Book.{Book}
 use Rattle.refusals.specs.Refusals.{answer, outside}
 use Rattle.book.specs.Book.{withLegs, withLedger, ageOf, Valid}
-use Rattle.book.specs.Instructing.{newLeg, obligationOf, enteredAlone, enteredWith, enteredBy, enterRefused, enter, withdrawRefusals, withdraw, doneRefused, cancelRefusals, cancelRefused, cancel, deliverRefusals, deliverRefused, deliver}
-use Rattle.refusals.specs.Calls.{enterRefusals, deliverRefusalsOf, offerRefusalsIn, offerRefusalsOf}
-use Rattle.book.specs.Buying.{offerRefusals, offer}
+use Rattle.book.specs.Instructing.{newLeg, obligationOf, enteredAlone, enteredWith, enteredBy, enterRefused, enter, withdraw, cancel, deliver}
+use Rattle.refusals.specs.Calls.{enterRefusals, deliverRefusalsOf, offerRefusalsIn}
+use Rattle.book.specs.Buying.{offer}
 use Rattle.refusals.proofs.Refusals.{passed, outcome-case}
+use Rattle.refusals.proofs.Offering.{offers-few}
+use Rattle.book.proofs.Outcomes.{withdraw-case, cancel-case, deliver-case, offer-case}
 
 -- ---- parts of a book that change
 module _ (b : Book) (v : Valid b) where
@@ -91,32 +92,25 @@ module _ (b : Book) (v : Valid b) where
 
   -- ---- Withdraw
   pub withdraw-valid : (n member : ℕ) → Valid (withdraw b n member .book)
-  unfolding withdraw withdrawRefusals
   withdraw-valid n member =
-      outcome-case (λ r. Valid (r .book)) _ _ (doneRefused b) (λ k. v) (λ e.
-      let p = passed 1 _ _ e refl in
-      let h = waiting-below (b .legs) n (passed 13 _ _ (p .1) refl .0) in
+      withdraw-case b (λ r. Valid (r .book)) n member (λ k z. v) (λ h.
       let w = waiting-state (b .legs) (v .legs-valid) n h Withdrawn in
       with-legs-valid _ (valid-state (b .legs) (v .legs-valid) n h Withdrawn) (omega (arith, v .room)))
 
   -- ---- Cancel
   pub cancel-valid : (n member : ℕ) → Valid (cancel b n member .book)
-  unfolding cancel cancelRefusals
   cancel-valid n member =
-      outcome-case (λ r. Valid (r .book)) _ _ (cancelRefused b) (λ k. v) (λ e.
+      cancel-case b (λ r. Valid (r .book)) n member (λ k z. v) (λ h e.
       let o = obligationAt (b .ledger) n in
-      let h = present-below (b .ledger) n (passed 13 _ _ (passed 1 _ _ e refl .1) refl .0) in
       changed-valid n (wishing member o) h (wishing-sound o member (v .ledger-valid .sound n h)) (wishing-later o member .day) (wishing-later o member .less))
 
   -- ---- Deliver
   pub deliver-valid : (n q : ℕ) → Valid (deliver b n q .book)
-  unfolding deliver deliverRefusals deliverRefusalsOf
+  unfolding deliverRefusalsOf
   deliver-valid n q =
-      outcome-case (λ r. Valid (r .book)) _ _ (deliverRefused b) (λ k. v) (λ e.
+      deliver-case b (λ r. Valid (r .book)) n q (λ k z. v) (λ h e.
       let o = obligationAt (b .ledger) n in
-      let p = passed 13 _ _ (passed 2 _ _ e refl .1) refl in
-      let h = present-below (b .ledger) n (p .0) in
-      let t = ltb-false (o .parts .outstanding) q (passed 15 _ _ (p .1) refl .0) in
+      let t = ltb-false (o .parts .outstanding) q (passed 15 _ _ e refl .0) in
       changed-valid n (deliveringFrom q o) h (delivering-sound o q (record { sound = v .ledger-valid .sound n h; enough = t })) (delivering-later o q .day) (delivering-later o q .less))
 
   -- ---- Offer
@@ -124,18 +118,15 @@ module _ (b : Book) (v : Valid b) where
   within low high x e = let q = or-false e in (ltb-false x low (q .0), ltb-false high x (q .1))
 
   pub offer-valid : (n supplier q price : ℕ) → Valid (offer b n supplier q price .book)
-  unfolding offer offerRefusals offerRefusalsIn offerRefusalsOf
+  unfolding offerRefusalsIn
   offer-valid n supplier q price =
-      outcome-case (λ r. Valid (r .book)) _ _ (doneRefused b) (λ k. v) (λ e.
+      offer-case b (λ r. Valid (r .book)) n supplier q price (λ k z. v) (λ h e f.
       let p1 = passed 1 _ _ e refl in
       let p2 = passed 2 _ _ (p1 .1) refl in
       let p3 = passed 3 _ _ (p2 .1) refl in
-      let p13 = passed 13 _ _ (p3 .1) refl in
-      let p16 = passed 16 _ _ (passed 15 _ _ (p13 .1) refl .1) refl in
-      let h = present-below (b .ledger) n (p13 .0) in
       let w2 = within 1 mostQuantity q (p2 .0) in
       let w3 = within 1 mostOfferPrice price (p3 .0) in
-      with-ledger-valid _ (valid-offer (b .ledger) (v .ledger-valid) _ (leb-false 64 (b .ledger .offers .count) (passed 17 _ _ (p16 .1) refl .0)) (record {
+      with-ledger-valid _ (valid-offer (b .ledger) (v .ledger-valid) _ (offers-few _ _ _ _ _ _ f) (record {
         there = h;
         supplier-most = ltb-false 999 supplier (p1 .0);
         quantity-some = w2 .0;

@@ -4,14 +4,20 @@ use Prim.Native.Nat.{ℕ}
 use mathlib.Core.Path.{_≡_, refl}
 use mathlib.Core.List.{List, [], _∷_}
 use Rattle.calendar.specs.declared.Day.{Day}
+use Rattle.calendar.specs.declared.NextDay.{NextDay}
+use Rattle.calendar.specs.declared.NextDay.the-variants.{At, Never}
 use Rattle.instructions.specs.declared.Leg.{Leg}
 use Rattle.instructions.specs.declared.Fit.{Fit}
 use Rattle.instructions.specs.declared.Fit.the-variants.{With, Nobody}
+use Rattle.instructions.specs.declared.FetchedLeg.{FetchedLeg}
+use Rattle.instructions.specs.declared.FetchedLeg.the-variants.{Found, Absent}
+use Rattle.instructions.specs.Legs.{fetchedLeg}
 use Rattle.instructions.specs.Match.{lowestFit}
-use Rattle.ledger.specs.Ledger.{obligationAt, fetched, isAbsent}
+use Rattle.ledger.specs.Ledger.{fetched}
 use Rattle.refusals.specs.Refusals.{refuse, noMember}
-use Rattle.refusals.specs.Calls.{enterRefusals, cancelRefusalsOf, deliverRefusalsOf, offerRefusalsIn, offerRefusalsOf, closeRefusalsIn, closeRefusals}
+use Rattle.refusals.specs.Calls.{enterRefusals, cancelRefusalsIn, cancelRefusalsOf, deliverRefusalsIn, deliverRefusalsOf, offerRefusalsIn, offerRefusalsOf, closeRefusalsIn, closeRefusals}
 use Rattle.refusals.proofs.Refusals.{Refuses, is-printed, outcome-refuses}
+use Rattle.refusals.proofs.Named.{fetch-refuses}
 use Rattle.payments.specs.Month.{monthRefusals}
 use Rattle.book.specs.declared.Book.{Book}
 use Rattle.book.specs.declared.Opened.{Opened}
@@ -24,11 +30,11 @@ use Rattle.book.specs.declared.Shown.{Shown}
 use Rattle.book.specs.declared.Balance.{Balance}
 use Rattle.book.specs.declared.Looked.{Looked}
 use Rattle.book.specs.Open.{openRefusals, openRefused, opened}
-use Rattle.book.specs.Instructing.{newLeg, enteredAlone, enteredWith, enteredBy, enterRefused, enter, withdrawRefusals, doneRefused, withdraw, cancelRefusals, cancelRefused, cancel, deliverRefusals, deliverRefused, deliver}
-use Rattle.book.specs.Buying.{offerRefusals, offer}
-use Rattle.book.specs.Closing.{nextDay, closeRefused, close}
+use Rattle.book.specs.Instructing.{newLeg, enteredAlone, enteredWith, enteredBy, enterRefused, enter, withdrawRefusals, doneRefused, withdrawBy, withdraw, cancelRefusals, cancelRefused, cancelDone, cancel, deliverRefusals, deliverRefused, deliverDone, deliver}
+use Rattle.book.specs.Buying.{offerRefusalsFor, offerRefusals, offerDone, offer}
+use Rattle.book.specs.Closing.{nextDay, closeRefused, closeBy, close}
 use Rattle.book.specs.Month.{month}
-use Rattle.book.specs.Reading.{statusRefused, status, accountRefused, account, Looks}
+use Rattle.book.specs.Reading.{statusRefusals, statusRefused, statusDone, status, accountRefused, account, Looks}
 
 pub open-refuses : (first : Day) (ds : List ℕ) (terms : ℕ) → Refuses (openRefusals first ds terms) (opened first ds terms .answer)
 unfolding opened openRefusals
@@ -49,38 +55,48 @@ module _ (b : Book) where
       outcome-refuses (λ (r : Entered). r .answer) (enterRefusals (b .closed) (b .today) (b .legs .count) new) _ (enterRefused b) refl
       (entered-zero new (lowestFit (b .legs) new)) (λ n. refl)
 
-  pub withdraw-refuses : (leg member : ℕ) → Refuses (withdrawRefusals b leg member) (withdraw b leg member .answer)
-  unfolding withdraw withdrawRefusals
-  withdraw-refuses leg member = outcome-refuses (λ (r : Done). r .answer) (withdrawRefusals b leg member) _ (doneRefused b) refl refl (λ n. refl)
+  pub withdraw-refuses : (leg member : ℕ) → Refuses (withdrawRefusals (fetchedLeg (b .legs) leg) member) (withdraw b leg member .answer)
+  unfolding withdraw withdrawBy withdrawRefusals
+  withdraw-refuses leg member = by (fetchedLeg (b .legs) leg)
+    where
+      by : (f : FetchedLeg) → Refuses (withdrawRefusals f member) (withdrawBy b leg member f .answer)
+      by Absent = record { printed = is-printed (withdrawRefusals Absent member) refl; given = refl }
+      by (Found l) = outcome-refuses (λ (r : Done). r .answer) (withdrawRefusals (Found l) member) _ (doneRefused b) refl refl (λ n. refl)
 
-  pub cancel-refuses : (n member : ℕ) → Refuses (cancelRefusals b n member (obligationAt (b .ledger) n)) (cancel b n member .answer)
+  pub cancel-refuses : (n member : ℕ) → Refuses (cancelRefusals b n member) (cancel b n member .answer)
   unfolding cancel cancelRefusals cancelRefusalsOf
   cancel-refuses n member =
-      outcome-refuses (λ (r : Cancelled). r .answer) (cancelRefusals b n member (obligationAt (b .ledger) n)) _ (cancelRefused b) refl refl (λ k. refl)
+      fetch-refuses (cancelRefusalsIn member) (λ o. cancelRefusalsOf o member) (cancelDone b n member) (cancelRefused b)
+      (λ (r : Cancelled). r .answer) (fetched (b .ledger) n) refl (λ o. refl) (λ o. refl) (λ k. refl)
 
-  pub deliver-refuses : (n q : ℕ) → Refuses (deliverRefusals b n q (obligationAt (b .ledger) n)) (deliver b n q .answer)
+  pub deliver-refuses : (n q : ℕ) → Refuses (deliverRefusals b n q) (deliver b n q .answer)
   unfolding deliver deliverRefusals deliverRefusalsOf
   deliver-refuses n q =
-      outcome-refuses (λ (r : Delivered). r .answer) (deliverRefusals b n q (obligationAt (b .ledger) n)) _ (deliverRefused b) refl refl (λ k. refl)
+      fetch-refuses (deliverRefusalsIn q) (λ o. deliverRefusalsOf (b .today) o q) (deliverDone b n q) (deliverRefused b)
+      (λ (r : Delivered). r .answer) (fetched (b .ledger) n) refl (λ o. refl) (λ o. refl) (λ k. refl)
 
-  pub offer-refuses : (n supplier q price : ℕ) → Refuses (offerRefusals b n supplier q price (obligationAt (b .ledger) n)) (offer b n supplier q price .answer)
+  pub offer-refuses : (n supplier q price : ℕ) → Refuses (offerRefusals b n supplier q price) (offer b n supplier q price .answer)
   unfolding offer offerRefusals offerRefusalsIn offerRefusalsOf
   offer-refuses n supplier q price =
-      outcome-refuses (λ (r : Done). r .answer) (offerRefusals b n supplier q price (obligationAt (b .ledger) n)) _ (doneRefused b) refl refl (λ k. refl)
+      fetch-refuses (offerRefusalsIn supplier q price) (offerRefusalsFor b price) (λ o. offerDone b n supplier q price) (doneRefused b)
+      (λ (r : Done). r .answer) (fetched (b .ledger) n) refl (λ o. refl) (λ o. refl) (λ k. refl)
 
   pub close-refuses : (price rate words : ℕ) → Refuses (closeRefusals price rate words (nextDay b)) (close b price rate words .answer)
-  unfolding close closeRefusals closeRefusalsIn
-  close-refuses price rate words =
-      outcome-refuses (λ (r : Closed). r .answer) (closeRefusals price rate words (nextDay b)) _ (closeRefused b) refl refl (λ k. refl)
+  unfolding close closeBy closeRefusals closeRefusalsIn
+  close-refuses price rate words = by (nextDay b)
+    where
+      by : (t : NextDay) → Refuses (closeRefusals price rate words t) (closeBy b price rate words t .answer)
+      by Never = record { printed = is-printed (closeRefusals price rate words Never) refl; given = refl }
+      by (At next) = outcome-refuses (λ (r : Closed). r .answer) (closeRefusals price rate words (At next)) _ (closeRefused b) refl refl (λ k. refl)
 
   pub month-refuses : (cs : List ℕ) (places : ℕ) → Refuses (monthRefusals (b .ledger .accounts) (b .«close_since») cs places) (month b cs places .answer)
   unfolding month monthRefusals
   month-refuses cs places =
       outcome-refuses (λ (r : Done). r .answer) (monthRefusals (b .ledger .accounts) (b .«close_since») cs places) _ (doneRefused b) refl refl (λ k. refl)
 
-  pub status-refuses : (n : ℕ) → Refuses (refuse 13 (isAbsent (fetched (b .ledger) n)) ∷ []) (status b n .answer)
-  unfolding status
-  status-refuses n = outcome-refuses (λ (r : Shown). r .answer) (refuse 13 (isAbsent (fetched (b .ledger) n)) ∷ []) _ (statusRefused b) refl refl (λ k. refl)
+  pub status-refuses : (n : ℕ) → Refuses (statusRefusals b n) (status b n .answer)
+  unfolding status statusRefusals
+  status-refuses n = fetch-refuses [] (λ o. []) (statusDone b) (statusRefused b) (λ (r : Shown). r .answer) (fetched (b .ledger) n) refl (λ o. refl) (λ o. refl) (λ k. refl)
 
   pub account-refuses : (m : ℕ) → Refuses (refuse 1 (noMember m) ∷ []) (account b m .answer)
   unfolding account

@@ -35,7 +35,7 @@ withLedger l b = record {
   ledger = l;
 }
 
--- 01, Buy-in: the age of an obligation
+-- B1, Buy-in: the age of an obligation
 unfoldable pub ageOf : Book → Obligation → ℕ
 ageOf b o = ageAt (listed (b .closed)) (o .day) (b .today) .0
 
@@ -43,7 +43,7 @@ ageOf b o = ageAt (listed (b .closed)) (o .day) (b .today) .0
 abbrev pub mostPerDay : ℕ
 mostPerDay = 96000000
 
--- the premise of every call
+-- O9, Open: the premise of every call, which holds of the book of every Open and is kept by each call
 pub record Valid (b : Book) : Type 0 where
   pub closed-size : length (b .closed .days) ≡ 64
   pub closed-few : b .closed .count ≤ mostClosed

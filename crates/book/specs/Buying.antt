@@ -1,28 +1,32 @@
 -- Buy-in: Offer.
 use Prim.Native.Nat.{ℕ}
-use mathlib.Core.List.{List, _∷_, _++_}
+use mathlib.Core.List.{List}
 use Rattle.ledger.specs.declared.Obligation.{Obligation}
-use Rattle.ledger.specs.Ledger.{obligationAt, fetched, isAbsent, withOfferFor}
+use Rattle.ledger.specs.Ledger.{fetched, withOfferFor}
 use Rattle.book.specs.declared.Book.{Book}
 use Rattle.book.specs.declared.Done.{Done}
-use Rattle.refusals.specs.Calls.{offerRefusalsIn, offerRefusalsOf}
-use Rattle.refusals.specs.Refusals.{Refusal, refuse, answer, outcome}
+use Rattle.refusals.specs.Calls.{fetchRefusals, fetchOutcome, offerRefusalsIn, offerRefusalsOf}
+use Rattle.refusals.specs.Refusals.{Refusal}
 use Rattle.book.specs.Book.{withLedger, ageOf}
 use Rattle.book.specs.Instructing.{doneRefused}
 
--- 01, Refusals, of Offer: o is the obligation with the number
-unfoldable pub offerRefusals : Book → ℕ → ℕ → ℕ → ℕ → Obligation → List Refusal
-offerRefusals b n supplier q price o =
-    offerRefusalsIn supplier q price
-    ++ refuse 13 (isAbsent (fetched (b .ledger) n))
-    ∷ offerRefusalsOf (b .terms) (b .today) (ageOf b o) (b .ledger .offers .count) o price
+-- A11, Refusals, of Offer on the obligation that was found
+abbrev pub offerRefusalsFor : Book → ℕ → Obligation → List Refusal
+offerRefusalsFor b price o = offerRefusalsOf (b .terms) (b .today) (ageOf b o) (b .ledger .offers .count) o price
 
--- 01, Buy-in, Offer
+-- A11, Refusals, of Offer
+unfoldable pub offerRefusals : Book → ℕ → ℕ → ℕ → ℕ → List Refusal
+offerRefusals b n supplier q price = fetchRefusals (offerRefusalsIn supplier q price) (fetched (b .ledger) n) (offerRefusalsFor b price)
+
+-- B4 and B5, Buy-in: if an Offer is done, the book holds the offer
+abbrev pub offerDone : Book → ℕ → ℕ → ℕ → ℕ → Done
+offerDone b n supplier q price = record {
+  answer = 0;
+  book = withLedger (withOfferFor (record { obligation = n; supplier = supplier; quantity = q; price = price }) (b .ledger)) b;
+}
+
+-- B4 to B8, Buy-in, Offer
 unfoldable pub offer : Book → ℕ → ℕ → ℕ → ℕ → Done
 offer b n supplier q price =
-    outcome (answer (offerRefusals b n supplier q price (obligationAt (b .ledger) n)))
-    (record {
-      answer = 0;
-      book = withLedger (withOfferFor (record { obligation = n; supplier = supplier; quantity = q; price = price }) (b .ledger)) b;
-    })
-    (doneRefused b)
+    fetchOutcome (offerRefusalsIn supplier q price) (fetched (b .ledger) n) (offerRefusalsFor b price)
+    (λ o. offerDone b n supplier q price) (doneRefused b)

@@ -1,30 +1,31 @@
 -- Instructions: Enter, Withdraw, Cancel, Deliver.
 use Prim.Native.Nat.{ℕ, _+_}
-use mathlib.Core.Bool.{not}
+use mathlib.Core.Bool.{true, not}
 use mathlib.Core.List.{List, [], _∷_}
 use lib.Dec.{eqb}
 use Rattle.calendar.specs.declared.Day.{Day}
-use Rattle.amounts.specs.Amounts.{mostQuantity}
 use Rattle.instructions.specs.declared.Leg.{Leg}
 use Rattle.instructions.specs.declared.LegState.the-variants.{Waiting, Withdrawn, Matched}
 use Rattle.instructions.specs.declared.Fit.{Fit}
 use Rattle.instructions.specs.declared.Fit.the-variants.{With, Nobody}
-use Rattle.instructions.specs.Legs.{inState, legAt, fetchedLeg, notWaiting, withState, withLeg}
+use Rattle.instructions.specs.declared.FetchedLeg.{FetchedLeg}
+use Rattle.instructions.specs.declared.FetchedLeg.the-variants.{Found, Absent}
+use Rattle.instructions.specs.Legs.{isWaiting, inState, legAt, fetchedLeg, withState, withLeg}
 use Rattle.instructions.specs.Match.{delivering, receiving, lowestFit}
 use Rattle.ledger.specs.declared.Obligation.{Obligation}
 use Rattle.ledger.specs.Obligations.{newObligation, cashOf, wishing, movedByWish, delivering as deliveringFrom}
-use Rattle.ledger.specs.Ledger.{obligationAt, fetched, isAbsent, withObligation, withNew}
+use Rattle.ledger.specs.Ledger.{fetched, withObligation, withNew}
 use Rattle.book.specs.declared.Book.{Book}
 use Rattle.book.specs.declared.Entered.{Entered}
 use Rattle.book.specs.declared.Done.{Done}
 use Rattle.book.specs.declared.Cancelled.{Cancelled}
 use Rattle.book.specs.declared.Delivered.{Delivered}
-use Rattle.refusals.specs.Calls.{enterRefusals, cancelRefusalsOf, deliverRefusalsOf}
-use Rattle.refusals.specs.Refusals.{Refusal, refuse, answer, outcome, outside, noMember}
+use Rattle.refusals.specs.Calls.{fetchRefusals, fetchOutcome, enterRefusals, cancelRefusalsIn, cancelRefusalsOf, deliverRefusalsIn, deliverRefusalsOf}
+use Rattle.refusals.specs.Refusals.{Refusal, refuse, answer, outcome, noMember}
 use Rattle.book.specs.Book.{withLegs, withLedger}
 
 -- ---- Enter
--- the leg of an instruction, which waits
+-- E1, Enter: the leg of an instruction, which waits
 abbrev pub newLeg : ℕ → ℕ → ℕ → ℕ → ℕ → Day → Leg
 newLeg member other side q a j = record {
   member = member;
@@ -36,13 +37,13 @@ newLeg member other side q a j = record {
   state = Waiting;
 }
 
--- 01, Instructions: the obligation of two legs takes the delivering leg's amount and member as seller, the receiving
--- leg's member as buyer
+-- E8, Enter: the obligation of two legs has A and the seller from the delivering leg, the buyer from the receiving leg,
+-- and Q and J, in which the two agree, from the new one
 unfoldable pub obligationOf : Leg → Leg → Obligation
 obligationOf new old =
     newObligation (delivering new old .member) (receiving new old .member) (new .quantity) (delivering new old .amount) (new .day)
 
--- 01, Enter: no leg fits, so the new one waits
+-- E10 and E11, Enter: no leg fits, so the new one waits
 unfoldable pub enteredAlone : Book → Leg → Entered
 enteredAlone b new = record {
   answer = 0;
@@ -51,7 +52,7 @@ enteredAlone b new = record {
   book = withLegs (withLeg new (b .legs)) b;
 }
 
--- 01, Enter: leg k fits, so both are matched to a new obligation
+-- E8, E10 and E11, Enter: leg k fits, so both are matched to a new obligation
 unfoldable pub enteredWith : Book → Leg → ℕ → Entered
 enteredWith b new k = record {
   answer = 0;
@@ -62,16 +63,16 @@ enteredWith b new k = record {
       (withLedger (withNew (obligationOf new (legAt (b .legs) k)) (b .ledger)) b);
 }
 
--- an Enter that is done, by the leg that the new one matches, if there is one
+-- E10, Enter: one that is done, by the search for the leg that the new one matches
 abbrev pub enteredBy : Book → Leg → Fit → Entered
 enteredBy b new Nobody = enteredAlone b new
 enteredBy b new (With k) = enteredWith b new k
 
--- a refused Enter
+-- A5, Refusals: a refused Enter
 abbrev pub enterRefused : Book → ℕ → Entered
 enterRefused b n = record { answer = n; leg = 0; obligation = 0; book = b }
 
--- 01, Enter
+-- E1 to E11, Enter
 unfoldable pub enter : Book → ℕ → ℕ → ℕ → ℕ → ℕ → Day → Entered
 enter b member other side q a j =
     let new = newLeg member other side q a j in
@@ -79,56 +80,76 @@ enter b member other side q a j =
     (enterRefused b)
 
 -- ---- Withdraw
--- 01, Refusals, of Withdraw
-unfoldable pub withdrawRefusals : Book → ℕ → ℕ → List Refusal
-withdrawRefusals b n member =
+-- A8, Refusals, of Withdraw: by the answer of the fetch. R13 holds if there is no such leg or it does not wait, R14 if
+-- the leg is another member's.
+unfoldable pub withdrawRefusals : FetchedLeg → ℕ → List Refusal
+withdrawRefusals Absent member = refuse 1 (noMember member) ∷ refuse 13 true ∷ []
+withdrawRefusals (Found l) member =
     refuse 1 (noMember member)
-    ∷ refuse 13 (notWaiting (fetchedLeg (b .legs) n))
-    ∷ refuse 14 (not (eqb (legAt (b .legs) n .member) member))
+    ∷ refuse 13 (not (isWaiting (l .state)))
+    ∷ refuse 14 (not (eqb (l .member) member))
     ∷ []
 
--- a refused Withdraw, Offer or Month
+-- A5, Refusals: a refused Withdraw, Offer or Month
 abbrev pub doneRefused : Book → ℕ → Done
 doneRefused b n = record { answer = n; book = b }
 
--- 01, Withdraw
+-- T1, Withdraw: if it is done, leg n is withdrawn
+abbrev pub withdrawDone : Book → ℕ → Done
+withdrawDone b n = record { answer = 0; book = withLegs (withState n Withdrawn (b .legs)) b }
+
+-- T1 and T2, Withdraw: by the answer of the fetch. If the leg is absent, the call is refused. If it was found, the call
+-- is done or refused.
+unfoldable pub withdrawBy : Book → ℕ → ℕ → FetchedLeg → Done
+withdrawBy b n member Absent = doneRefused b (answer (withdrawRefusals Absent member))
+withdrawBy b n member (Found l) = outcome (answer (withdrawRefusals (Found l) member)) (withdrawDone b n) (doneRefused b)
+
+-- T1 and T2, Withdraw
 unfoldable pub withdraw : Book → ℕ → ℕ → Done
-withdraw b n member =
-    outcome (answer (withdrawRefusals b n member))
-    (record { answer = 0; book = withLegs (withState n Withdrawn (b .legs)) b })
-    (doneRefused b)
+withdraw b n member = withdrawBy b n member (fetchedLeg (b .legs) n)
 
 -- ---- Cancel
--- 01, Refusals, of Cancel: o is the obligation with the number
-unfoldable pub cancelRefusals : Book → ℕ → ℕ → Obligation → List Refusal
-cancelRefusals b n member o = refuse 1 (noMember member) ∷ refuse 13 (isAbsent (fetched (b .ledger) n)) ∷ cancelRefusalsOf o member
+-- A9, Refusals, of Cancel
+unfoldable pub cancelRefusals : Book → ℕ → ℕ → List Refusal
+cancelRefusals b n member = fetchRefusals (cancelRefusalsIn member) (fetched (b .ledger) n) (λ o. cancelRefusalsOf o member)
 
--- a refused Cancel
+-- A5, Refusals: a refused Cancel
 abbrev pub cancelRefused : Book → ℕ → Cancelled
 cancelRefused b n = record { answer = n; moved = 0; book = b }
 
--- 01, Cancel
+-- K1 to K3, Cancel: what it returns if it is done on obligation n, which is o
+abbrev pub cancelDone : Book → ℕ → ℕ → Obligation → Cancelled
+cancelDone b n member o = record {
+  answer = 0;
+  moved = movedByWish member o;
+  book = withLedger (withObligation n (wishing member o) (b .ledger)) b;
+}
+
+-- K1 to K4, Cancel
 unfoldable pub cancel : Book → ℕ → ℕ → Cancelled
 cancel b n member =
-    let o = obligationAt (b .ledger) n in
-    outcome (answer (cancelRefusals b n member o))
-    (record { answer = 0; moved = movedByWish member o; book = withLedger (withObligation n (wishing member o) (b .ledger)) b })
+    fetchOutcome (cancelRefusalsIn member) (fetched (b .ledger) n) (λ o. cancelRefusalsOf o member) (cancelDone b n member)
     (cancelRefused b)
 
 -- ---- Deliver
--- 01, Refusals, of Deliver: o is the obligation with the number
-unfoldable pub deliverRefusals : Book → ℕ → ℕ → Obligation → List Refusal
-deliverRefusals b n q o =
-    refuse 2 (outside 1 mostQuantity q) ∷ refuse 13 (isAbsent (fetched (b .ledger) n)) ∷ deliverRefusalsOf (b .today) o q
+-- A10, Refusals, of Deliver
+unfoldable pub deliverRefusals : Book → ℕ → ℕ → List Refusal
+deliverRefusals b n q = fetchRefusals (deliverRefusalsIn q) (fetched (b .ledger) n) (λ o. deliverRefusalsOf (b .today) o q)
 
--- a refused Deliver
+-- A5, Refusals: a refused Deliver
 abbrev pub deliverRefused : Book → ℕ → Delivered
 deliverRefused b n = record { answer = n; cash = 0; book = b }
 
--- 01, Deliver
+-- V1 and V2, Deliver: what it returns if it is done on obligation n, which is o
+abbrev pub deliverDone : Book → ℕ → ℕ → Obligation → Delivered
+deliverDone b n q o = record {
+  answer = 0;
+  cash = cashOf o q;
+  book = withLedger (withObligation n (deliveringFrom q o) (b .ledger)) b;
+}
+
+-- V1 and V2, Deliver
 unfoldable pub deliver : Book → ℕ → ℕ → Delivered
 deliver b n q =
-    let o = obligationAt (b .ledger) n in
-    outcome (answer (deliverRefusals b n q o))
-    (record { answer = 0; cash = cashOf o q; book = withLedger (withObligation n (deliveringFrom q o) (b .ledger)) b })
+    fetchOutcome (deliverRefusalsIn q) (fetched (b .ledger) n) (λ o. deliverRefusalsOf (b .today) o q) (deliverDone b n q)
     (deliverRefused b)

@@ -9,7 +9,7 @@ use Rattle.book.specs.declared.Book.{Book}
 use Rattle.book.specs.declared.Done.{Done}
 use Rattle.book.specs.Instructing.{doneRefused}
 
--- 01, Month: the book after it
+-- M10, Month: the book after it
 abbrev pub monthBook : Book → Book
 monthBook b = record {
   closed = b .closed;
@@ -20,14 +20,14 @@ monthBook b = record {
   ledger = clearedLedger (b .ledger);
 }
 
--- 01, Refusals, of Month: with this many places for payouts
+-- A13, Refusals, of Month: its answer number, with this many places for payouts
 abbrev pub monthAnswer : Book → List ℕ → ℕ → ℕ
 monthAnswer b collected places = monthNumber (b .ledger .accounts) (b .«close_since») collected places
 
--- 01, Month: with this many places for payouts
+-- M3 and M10, Month: with this many places for payouts
 unfoldable pub month : Book → List ℕ → ℕ → Done
 month b collected places = outcome (monthAnswer b collected places) (record { answer = 0; book = monthBook b }) (doneRefused b)
 
--- 01, Month: every word of the payouts as it ends
+-- M3, Month, and A5, Refusals: every word of the places for payouts as the call ends
 abbrev pub monthWords : Book → List ℕ → List ℕ → List ℕ
 monthWords b collected places = paidOut (b .ledger .accounts) (b .«close_since») collected places

@@ -16,13 +16,13 @@ use Rattle.book.specs.declared.Opened.{Opened}
 use Rattle.refusals.specs.Calls.{badFirst}
 use Rattle.refusals.specs.Refusals.{Refusal, refuse, answer, outcome}
 
--- 01, Open: terms 0 and 1 (002, chapters 1 and 2)
+-- O3 and O4, Open: the stages by terms 0 and by terms 1
 abbrev pub termsOf : ℕ → Terms
 termsOf terms =
     pick (eqb terms 0) (record { notice = clearingDays 29; grace = clearingDays 30; last = clearingDays 35 })
     (record { notice = clearingDays 7; grace = clearingDays 10; last = clearingDays 13 })
 
--- 01, Open: a fresh book
+-- O5, Open: a fresh book
 abbrev pub freshBook : Day → ClosedDays → ℕ → Book
 freshBook first closed terms = record {
   closed = closed;
@@ -33,15 +33,15 @@ freshBook first closed terms = record {
   ledger = newLedger;
 }
 
--- 01, Open: refused, it returns a book with terms 0, no closed days, today = 2
+-- O6, Open: a refused Open returns the fresh book of day 2, without closed days and with terms 0
 unfoldable pub refusedBook : Book
 refusedBook = freshBook (day 2) (closedDays []) 0
 
--- a refused Open
+-- O6, Open: its answer if it is refused
 abbrev pub openRefused : ℕ → Opened
 openRefused n = record { answer = n; book = refusedBook }
 
--- 01, Refusals, of Open
+-- A6, R1, R4 and R11, Refusals, of Open
 unfoldable pub openRefusals : Day → List ℕ → ℕ → List Refusal
 openRefusals first closed terms =
     refuse 1 (ltb 1 terms)
@@ -49,7 +49,7 @@ openRefusals first closed terms =
     ∷ refuse 11 (badFirst (closedDays closed) first)
     ∷ []
 
--- 01, Open
+-- O1 and O5 to O7, Open
 unfoldable pub opened : Day → List ℕ → ℕ → Opened
 opened first closed terms =
     outcome (answer (openRefusals first closed terms))

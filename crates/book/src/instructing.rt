@@ -104,7 +104,7 @@ impl Book {
         self.enter_with(new, k)
     }
 
-    // Ends a waiting leg of its member.
+    // Withdraws a leg of the member, which must be waiting.
     pub fn withdraw(mut self, leg: u64, member: u64) -> Done
         requires { ⌜ Valid self ⌝ }
         ensures { λ r. ⌜ r ≡ withdraw self leg member ⌝ }

@@ -30,7 +30,7 @@ fn terms_of(terms: u64) -> Terms
 }
 
 impl Book {
-    // A fresh book.
+    // Makes a fresh book.
     fn fresh(first: Day, closed: ClosedDays, terms: u64) -> Book
         ensures { λ r. ⌜ r ≡ freshBook first closed terms ⌝ }
     {
@@ -56,6 +56,7 @@ impl Book {
     pub fn open(first: Day, closed: &[u64], terms: u64) -> Opened
         ensures { λ r. ⌜ r ≡ opened first (now (closed .entry)) terms ⌝ }
         ensures { λ r. ⌜ Valid (r .book) ⌝ }
+        ensures { λ r. ⌜ now (closed .exit) ≡ now (closed .entry) ⌝ }
     {
         if 1 < terms {
             return Opened {

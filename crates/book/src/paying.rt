@@ -13,6 +13,7 @@ impl Book {
         ensures { λ r. ⌜ r ≡ month self (now (collected .entry)) (length (now (payouts .entry))) ⌝ }
         ensures { λ r. ⌜ now (payouts .exit) ≡ monthWords self (now (collected .entry)) (now (payouts .entry)) ⌝ }
         ensures { λ r. ⌜ Valid (r .book) ⌝ }
+        ensures { λ r. ⌜ now (collected .exit) ≡ now (collected .entry) ⌝ }
     {
         let ledger = self.ledger;
         let accounts = ledger.accounts;

@@ -6,7 +6,7 @@ use mathlib.Core.Path.{_≡_, refl, sym, ap, _∙_}
 use mathlib.Core.Bool.{true}
 use mathlib.Core.Logic.{_↔_, _⊎_, inl, inr, ⊎-elim}
 use mathlib.Core.List.{List}
-use Rattle.basics.proofs.Cases.{below-or-not}
+use Rattle.basics.proofs.Cases.{never, below-or-not}
 use Rattle.calendar.specs.declared.Day.{Day}
 use Rattle.calendar.specs.declared.ClearingDays.{ClearingDays}
 use Rattle.calendar.specs.declared.NextDay.{NextDay}
@@ -70,6 +70,15 @@ module _ (cs : List Day) where
   pub age-next : (j today next : Day) → j .0 ≤ today .0 → nextAfter cs today ≡ At next → ageAt cs j next .0 ≡ ageAt cs j today .0 + 1
   unfolding ageAt
   age-next j today next h q = first-counts (j .0) (today .0) (next .0) h (next-at cs today next q .0)
+
+  -- as long as a settlement day that clears is to come, the next clearing day does not pass it, and the age there is 0
+  pub age-to-come : (j today next : Day) → clearing cs j ≡ true → today .0 < j .0 → nextAfter cs today ≡ At next → ageAt cs j next .0 ≡ 0
+  age-to-come j today next c h q =
+      let f = next-at cs today next q .0 in
+      age-early j next
+      (⊎-elim (λ (z : j .0 < next .0). absurd (never (sym (f .first (j .0) h (omega arith)) ∙ c)))
+      (λ (z : next .0 ≤ j .0). z)
+      (below-or-not (j .0) (next .0)))
 
   -- what the n-th clearing day after j is: j itself, or a clearing day, and n of them are counted up to it
   pub record Nth (j n e : ℕ) : Type 0 where

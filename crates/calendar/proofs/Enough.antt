@@ -69,7 +69,7 @@ weekdays d (suc k) = by (leb 2 ((d + k) % 7)) refl (leb 2 ((d + suc k) % 7)) ref
     by false e true f h = let a = leb-false 2 ((d + k) % 7) e in omega arith
     by false e false f h = let a = leb-false 2 ((d + k) % 7) e in let b = leb-false 2 ((d + suc k) % 7) f in omega arith
 
--- 01, Refusals, 11: for a settlement day up to 60,000 the 36th clearing day after it exists, and each before it
+-- B3, Buy-in, and R11, Refusals: for a J up to 60,000 the 36th clearing day after it exists, and so does each before it
 pub last-day-exists : (cs : List Day) (j : Day) (n : ℕ) → length cs ≤ mostClosed → j .0 ≤ 60000 → n ≤ 36 →
     (e : Day) × (nthAfter cs j (clearingDays n) ≡ At e)
 last-day-exists cs j n h k m =

@@ -14,32 +14,32 @@ use Rattle.calendar.specs.declared.ClosedDays.{ClosedDays}
 abbrev pub day : ℕ → Day
 day d = record { 0 = d }
 
--- 01, Days and units: days run to 65,535; day 0 is Saturday 1 January 2000
+-- D2, Days and units: days have numbers up to 65,535; number 0 belongs to 1 January 2000, a Saturday
 abbrev pub lastDay : ℕ
 lastDay = 65535
 
--- 01, Open: the days of a list are k or later, strictly rising, and none is after the last day
+-- O2, Open: the days of a list are k or later, each is above the one before it, and none is above 65,535
 unfoldable pub risesFrom : ℕ → List ℕ → Bool
 risesFrom k [] = true
 risesFrom k (d ∷ ds) = leb k d && (leb d lastDay && risesFrom (d + 1) ds)
 
--- 01, Open: the most closed days that a book has
+-- O2, Open: the most closed days that a book has
 abbrev pub mostClosed : ℕ
 mostClosed = 64
 
--- 01, Refusals, 4: closed days too many, not rising or above 65,535
+-- R4, Refusals, of Open: there are more than 64 closed days, one is not above the one before it, or one is above 65,535
 unfoldable pub closedRefused : List ℕ → Bool
 closedRefused ds = not (leb (length ds) mostClosed && risesFrom 0 ds)
 
--- 01, Open: the closed days of a book that was given this list; free places hold day 0
+-- O2, Open: the closed days of a book that was given this list. The free places of the array hold day 0 and do not count.
 unfoldable pub closedDays : List ℕ → ClosedDays
 closedDays ds = record { days = padded mostClosed (day 0) (map day ds); count = length ds }
 
--- 01, Days and units: the days in the book's list of closed days
+-- D3, Days and units: the days that the book lists as closed
 unfoldable pub listed : ClosedDays → List Day
 listed closed = take (closed .count) (closed .days)
 
--- 01, Open: the closed days of a book rise strictly, and none is after the last day
+-- O2, Open: each closed day of a book is above the one before it, and none is above 65,535
 unfoldable pub Rises : ClosedDays → Type 0
 Rises closed = risesFrom 0 (map (λ (d : Day). d .0) (listed closed)) ≡ true
 

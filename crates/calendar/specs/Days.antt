@@ -14,7 +14,8 @@ use Rattle.calendar.specs.Closed.{day, lastDay, among}
 abbrev pub clearingDays : ℕ → ClearingDays
 clearingDays n = record { 0 = n }
 
--- 01, Days and units: a clearing day has remainder 2 to 6 by 7 and is no closed day; cs are the closed days
+-- D3, Days and units: a day clears if its number leaves 2 to 6 when divided by 7 and it is not closed; cs are the closed
+-- days
 unfoldable pub clearing : List Day → Day → Bool
 clearing cs d = leb 2 (d .0 % 7) && not (among cs d)
 
@@ -23,21 +24,21 @@ unfoldable pub nextWithin : List Day → ℕ → ℕ → NextDay
 nextWithin cs zero d = Never
 nextWithin cs (suc k) d = pick (clearing cs (day (d + 1))) (At (day (d + 1))) (nextWithin cs k (d + 1))
 
--- 01, Days and units: the next clearing day after d, up to the last day
+-- D4, Days and units: the next clearing day after d, if there is one up to 65,535
 unfoldable pub nextAfter : List Day → Day → NextDay
 nextAfter cs d = nextWithin cs (lastDay - d .0) (d .0)
 
--- the next clearing day after one that may not be there
+-- D6 and D7, Days and units: the next clearing day after one that was looked for; after none there is none
 unfoldable pub nextOf : List Day → NextDay → NextDay
 nextOf cs (At d) = nextAfter cs d
 nextOf cs Never = Never
 
--- 01, Days and units: the 0-th clearing day after d is d, and the n-th is the next after the one before it
+-- D5 and D6, Days and units: d is its own 0-th clearing day, and every further one is the next after the one before it
 unfoldable pub nthFrom : List Day → Day → ℕ → NextDay
 nthFrom cs d zero = At d
 nthFrom cs d (suc n) = nextOf cs (nthFrom cs d n)
 
--- the same for a count of clearing days
+-- D5 to D8, Days and units: the n-th clearing day after d, where n is a count of clearing days
 unfoldable pub nthAfter : List Day → Day → ClearingDays → NextDay
 nthAfter cs d n = nthFrom cs d (n .0)
 
@@ -46,19 +47,19 @@ unfoldable pub clearingWithin : List Day → ℕ → ℕ → ℕ
 clearingWithin cs d zero = 0
 clearingWithin cs d (suc k) = clearingWithin cs d k + pick (clearing cs (day (d + suc k))) 1 0
 
--- 01, Buy-in: the age is the number of clearing days after J up to today
+-- B1, Buy-in: the age counts the clearing days that are later than J and not later than today
 unfoldable pub ageAt : List Day → Day → Day → ClearingDays
 ageAt cs j today = clearingDays (clearingWithin cs (j .0) (today .0 - j .0))
 
--- no rule, but for how an age is worked out: the weekdays up to and with day n, as if no day were closed
+-- This states no rule; the code works out an age by it. It counts the weekdays up to day n, as if no day were closed.
 unfoldable pub weekdaysTo : ℕ → ℕ
 weekdaysTo n = clearingWithin [] 0 n
 
--- no rule: closed day c is a weekday after one day up to another
+-- this states no rule: whether closed day c is a weekday that is later than one day and not later than another
 unfoldable pub takesAway : Day → Day → Day → Bool
 takesAway c after to = ltb (after .0) (c .0) && (leb (c .0) (to .0) && leb 2 (c .0 % 7))
 
--- no rule: how many closed days are weekdays after one day up to another
+-- this states no rule: how many closed days are weekdays that are later than one day and not later than another
 unfoldable pub closedBetween : List Day → Day → Day → ℕ
 closedBetween [] after to = 0
 closedBetween (c ∷ cs) after to = pick (takesAway c after to) 1 0 + closedBetween cs after to

@@ -18,7 +18,7 @@ pub enum NextDay {
     Never,
 }
 
-// The book's closed days: the first count of these.
+// The book's closed days: the first `count` places of `days`. The places behind them are free.
 pub struct ClosedDays {
     pub days: [Day; 64],
     pub count: usize,
@@ -49,6 +49,7 @@ fn is_rising(days: &[u64]) -> bool
 // Whether a list of closed days is refused.
 pub fn refuses_closed(days: &[u64]) -> bool
     ensures { λ r. ⌜ r ≡ closedRefused (now (days .entry)) ⌝ }
+    ensures { λ r. ⌜ now (days .exit) ≡ now (days .entry) ⌝ }
 {
     if 64 < days.len() {
         return true;
@@ -56,7 +57,7 @@ pub fn refuses_closed(days: &[u64]) -> bool
     if is_rising(days) { false } else { true }
 }
 
-// How many weekdays there are up to a day: remainders 2 to 6 by 7.
+// How many weekdays there are up to a day, as if no day were closed.
 fn weekdays_to(day: Day) -> u64
     ensures { λ r. ⌜ r ≡ weekdaysTo (day .0) ⌝ }
 {
@@ -68,7 +69,7 @@ fn weekdays_to(day: Day) -> u64
     weeks + rest - 1
 }
 
-// Whether a closed day is a weekday after one day up to another.
+// Whether a closed day is a weekday that is later than one day and not later than another.
 fn takes_away(closed: Day, after: Day, to: Day) -> bool
     ensures { λ r. ⌜ r ≡ takesAway closed after to ⌝ }
 {
@@ -86,6 +87,7 @@ impl ClosedDays {
     pub fn listed(list: &[u64]) -> ClosedDays
         requires { ⌜ length (now list) ≤ mostClosed ⌝ }
         ensures { λ r. ⌜ r ≡ closedDays (now (list .entry)) ⌝ }
+        ensures { λ r. ⌜ now (list .exit) ≡ now (list .entry) ⌝ }
     {
         let mut days = [Day(0); 64];
         let mut i = 0;
@@ -157,7 +159,7 @@ impl ClosedDays {
         self.next_after(previous)
     }
 
-    // How many closed days are weekdays after one day up to another.
+    // How many closed days are weekdays that are later than one day and not later than another.
     fn closed_between(self, after: Day, to: Day) -> u64
         ensures { λ r. ⌜ r ≡ closedBetween (listed self) after to ⌝ }
     {

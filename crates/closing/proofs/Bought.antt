@@ -1,4 +1,4 @@
--- What a buy-in leaves of an obligation, offer by offer.
+-- Laws on what a buy-in leaves of an obligation, offer by offer.
 use Prim.Native.Nat.{ℕ, zero, suc, _+_, _*_, _≤_, _<_}
 use native.Mathlib.Omega.{arith}
 use native.Mathlib.Numerals.{add-one}
@@ -21,19 +21,19 @@ use Rattle.closing.specs.Stages.{boughtFrom, boughtAll}
 use Rattle.closing.specs.Asked.{taken, Buys}
 use Rattle.closing.proofs.Lines.{wrote-length}
 
--- all that is given is bought in
+-- all that the offers give is bought in
 pub bought-obligation : (n : ℕ) (gs : List Given) (o : Obligation) → boughtAll n gs o .obligation ≡ buyingIn (units gs) o
 unfolding boughtAll boughtFrom then total
 bought-obligation n [] o = sym (buying-none o)
 bought-obligation n (g ∷ gs) o = bought-obligation n gs (buyingIn (g .quantity) o) ∙ buying-more o (g .quantity) (units gs)
 
--- one line for each offer that gives
+-- there is one line for each offer that gives
 pub bought-length : (n : ℕ) (gs : List Given) (o : Obligation) → length (boughtAll n gs o .lines) ≡ length gs
 unfolding boughtAll boughtFrom then
 bought-length n [] o = refl
 bought-length n (g ∷ gs) o = ap suc (bought-length n gs (buyingIn (g .quantity) o))
 
--- one offer more
+-- the last offer is bought from after all the others
 bought-last : (n : ℕ) (gs : List Given) (g : Given) (o : Obligation) → boughtAll n (gs ++ g ∷ []) o ≡ then (boughtAll n gs o) (boughtFrom n g)
 unfolding boughtAll boughtFrom then
 bought-last n [] g o = refl
@@ -46,7 +46,7 @@ bought-next n gs k o z h =
     ap (λ (l : List Given). boughtAll n l o) (ap (λ (j : ℕ). take j gs) (add-one k) ∙ take-suc gs k z h)
     ∙ bought-last n (take k gs) (getD gs k z) o
 
--- the next offer's quantity is still outstanding
+-- what the next offer gives is still outstanding
 units-next : (gs : List Given) (k : ℕ) (z : Given) → k < length gs → units (take k gs) + getD gs k z .quantity ≤ units gs
 unfolding total
 units-next [] k z h = absurd (omega arith)
@@ -63,7 +63,7 @@ bought-takes n gs k o z h s e =
       enough = omega arith;
     })
 
--- ---- a buy-in as it goes on: the first k of what the pass over the offers has found
+-- ---- a buy-in in its course: the first k of what the pass over the offers has found
 module _ (n : ℕ) (o : Obligation) (b : BuyIn) (h : Buys o b) where
   abbrev soFar : ℕ → Made
   soFar k = boughtAll n (take k (taken b)) o
@@ -74,11 +74,11 @@ module _ (n : ℕ) (o : Obligation) (b : BuyIn) (h : Buys o b) where
   taken-at : (k : ℕ) → k < b .count → getD (taken b) k nothingGiven ≡ getD (b .given) k nothingGiven
   taken-at k l = getD-take (b .count) (b .given) k nothingGiven l
 
-  -- one more
+  -- the same with one offer more
   pub so-far-next : (k : ℕ) → k < b .count → soFar (k + 1) ≡ then (soFar k) (boughtFrom n (getD (b .given) k nothingGiven))
   so-far-next k l = rw (← taken-at k l) (bought-next n (taken b) k o nothingGiven (omega (arith, taken-length)))
 
-  -- what the next one asks
+  -- the requirement of the next offer holds
   pub so-far-takes : (k : ℕ) (r : Obligation) → k < b .count → r ≡ soFar k .obligation →
       (Takes r (getD (b .given) k nothingGiven .quantity)) × (getD (b .given) k nothingGiven .offer .price ≤ mostOfferPrice)
   so-far-takes k r l e =

@@ -1,5 +1,5 @@
--- The course of a Close of one obligation: penalty, notice, buy-in and compensation written one after another, and what
--- each asks of those before it.
+-- Laws on the Close of one obligation from its penalty to its compensation: each part is written behind those before
+-- it, and what it requires holds after them.
 use Prim.Native.Nat.{ℕ, _≤_}
 use mathlib.Core.Path.{_≡_, subst, _∙_}
 use mathlib.Core.List.{List}
@@ -42,7 +42,8 @@ module _ (d : DayEnd) (age : ℕ) (offers : List Offer) (n : ℕ) (o : Obligatio
   unfolding then penalised
   two-same = notice-same (d .terms) age n p
 
-  -- k is the obligation with its price kept; r and us, s and vs, t and xs are where penalty, notice and buy-in end
+  -- k is the obligation with its price stored. r and us, s and vs, t and xs are the obligation and the list after
+  -- penalty, notice and buy-in.
   module _ (k : Obligation) (e : k ≡ p) (r : Closing) (us : List ℕ) (w : Wrote count ws r us (penalised n (d .price) (d .rate) k)) where
     after-one : Wrote count ws r us one
     after-one = subst (λ (q : Obligation). Wrote count ws r us (penalised n (d .price) (d .rate) q)) e w

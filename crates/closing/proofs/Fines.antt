@@ -1,5 +1,5 @@
--- The penalties of a Close on the accounts: they can be transferred, keep the accounts' number and balance, and move no
--- account by more than 1,500,000 cents for each obligation.
+-- Laws on the penalties of a Close on the accounts. They can be transferred, they keep the number of the accounts and
+-- their balance, and they move no account by more than 1,500,000 cents for each obligation.
 use Prim.Native.Nat.{ℕ, zero, suc, _+_, _*_, _≤_}
 use native.Mathlib.Omega.{arith}
 use mathlib.Core.Path.{_≡_, refl, _∙_}
@@ -36,7 +36,7 @@ fine-transferable o price rate accounts s p r b = record {
   bounded = b;
 }
 
--- what a penalty keeps of the accounts
+-- what a penalty leaves as it was, and how far it moves an account at most
 pub record Charged (accounts after : List ℤ) (most : ℕ) : Type 0 where
   pub size : length after ≡ length accounts
   pub even : balance after ≡ balance accounts
@@ -56,7 +56,7 @@ fined-charged today price rate o accounts s p r size =
     })
     (λ e. record { size = refl; even = refl; near = λ m. omega arith })
 
--- the accounts after the penalties of the first n obligations, and each transfer within its bound
+-- The accounts after the penalties of the first n obligations. Each transfer is within its bound.
 module _ (today : Day) (price rate : ℕ) (l : Ledger) (v : ValidLedger l) (p : price ≤ mostClosePrice) (r : rate ≤ mostRate) where
   abbrev upTo : ℕ → List ℤ
   upTo n = accountsUpTo today price rate (l .obligations) (l .accounts) n

@@ -1,4 +1,4 @@
--- Lines in the lent list: stores one after another, and parts of a Close one after another.
+-- Laws on the lines in the lent list, and on parts of a Close that follow one another.
 use Prim.Native.Nat.{ℕ, suc, _+_, _*_}
 use native.Mathlib.Omega.{arith}
 use native.Mathlib.Nat.{add-zero}
@@ -12,7 +12,7 @@ use Rattle.closing.specs.declared.Line.{Line}
 use Rattle.closing.specs.declared.Closing.{Closing}
 use Rattle.closing.specs.Lines.{wordsOf, flat, Made, nothing, one, then, Room, Wrote}
 
--- six stores are the words of a line
+-- six stores write the words of a line
 pub six-stores : (ws : List ℕ) (k : ℕ) (l : Line) →
     set (set (set (set (set (set ws k (l .kind)) (k + 1) (l .obligation)) (k + 2) (l .quantity)) (k + 3) (l .cents)) (k + 4) (l .supplier)) (k + 5) (l .price) ≡ sets ws k (wordsOf l)
 six-stores ws k l =
@@ -34,7 +34,7 @@ unfolding flat
 flat-length [] = refl
 flat-length (l ∷ ls) = omega (arith, flat-length ls)
 
--- lines behind lines
+-- to write lines behind other lines is to write them together
 pub flat-stores : (ws : List ℕ) (count : ℕ) (ls ms : List Line) →
     sets (sets ws (6 * count) (flat ls)) (6 * (count + length ls)) (flat ms) ≡ sets ws (6 * count) (flat (ls ++ ms))
 flat-stores ws count ls ms =
@@ -42,18 +42,18 @@ flat-stores ws count ls ms =
     ∙ sym (sets-append ws (6 * count) (flat ls) (flat ms))
     ∙ ap (λ (l : List ℕ). sets ws (6 * count) l) (sym (flat-append ls ms))
 
--- nothing is written
+-- a part without lines writes nothing
 pub wrote-nothing : (s : Closing) (ws : List ℕ) → Wrote (s .count) ws s ws (nothing (s .obligation))
 unfolding flat
 wrote-nothing s ws = record { made = refl; counted = sym (add-zero (s .count)); words = refl }
 
--- one line is written
+-- a part with one line writes it
 pub wrote-one : (o : Obligation) (count : ℕ) (l : Line) (ws ws' : List ℕ) → ws' ≡ sets ws (6 * count) (wordsOf l) →
     Wrote count ws (record { obligation = o; count = count + 1 }) ws' (one o l)
 unfolding flat
 wrote-one o count l ws ws' e = record { made = refl; counted = refl; words = e }
 
--- one part after another
+-- two parts, one after the other, write what both together make
 pub wrote-then : (count : ℕ) (r t : Closing) (ws ws' ws'' : List ℕ) (m : Made) (f : Obligation → Made) →
     Wrote count ws r ws' m → Wrote (r .count) ws' t ws'' (f (r .obligation)) → Wrote count ws t ws'' (then m f)
 unfolding then
@@ -70,11 +70,11 @@ wrote-then count r t ws ws' ws'' m f p q =
           ∙ flat-stores ws count (m .lines) ms;
     }
 
--- the list is as long as before
+-- the list keeps its length
 pub wrote-length : (count : ℕ) (r : Closing) (ws ws' : List ℕ) (m : Made) → Wrote count ws r ws' m → length ws' ≡ length ws
 wrote-length count r ws ws' m p = ap (λ (l : List ℕ). length l) (p .words) ∙ length-sets ws (6 * count) (flat (m .lines))
 
--- room for two parts is room for the first, and then for the second
+-- if there is room for two parts, there is room for the first, and after it for the second
 pub room-first : (count : ℕ) (ws : List ℕ) (m : Made) (f : Obligation → Made) → Room count ws (then m f) → Room count ws m
 unfolding then
 room-first count ws m f h = omega (arith, h, length-append (m .lines) (f (m .obligation) .lines))

@@ -1,5 +1,5 @@
--- What each part of a Close leaves of an obligation: it is sound, with the same parties, quantity and day, and what the
--- lines say was bought or compensated is what moved.
+-- Laws on what each part of a Close leaves of an obligation. It is sound and has the same parties, quantity and day,
+-- and the quantities in its lines are those that moved.
 use Prim.Native.Nat.{ℕ, _+_, _≤_, _<_}
 use native.Mathlib.Omega.{arith}
 use mathlib.Core.Path.{_≡_, refl, ap, _∙_}
@@ -32,7 +32,7 @@ use Rattle.closing.specs.Close.{stages, closedOne}
 use Rattle.closing.specs.Asked.{taken, Priced, Buys}
 use Rattle.closing.proofs.Bought.{bought-obligation, bought-length}
 
--- sound, and later than o
+-- r is sound, and it is o at a later time
 pub record Goes (o r : Obligation) : Type 0 where
   pub sound : Sound r
   pub later : Later o r
@@ -43,7 +43,7 @@ goes-same o s = record { sound = s; later = later-same o }
 pub goes-then : (o p r : Obligation) → Goes o p → Goes p r → Goes o r
 goes-then o p r a b = record { sound = b .sound; later = later-then o p r (a .later) (b .later) }
 
--- what is given is outstanding
+-- the offers give no more than is outstanding
 pub given-enough : (n : ℕ) (offers : List Offer) (o : Obligation) → units (given n (o .parts .outstanding) offers) ≤ o .parts .outstanding
 given-enough n offers o = omega (arith, given-units n (o .parts .outstanding) offers)
 
@@ -54,7 +54,7 @@ priced-goes terms age price o h s =
     (λ e. record { sound = priced-sound o price h s; later = priced-later o price })
     (λ e. goes-same o s)
 
--- a price that is kept moves no quantity
+-- storing the price moves no quantity
 pub priced-parts : (terms : Terms) (age price : ℕ) (o : Obligation) → priced terms age price o .parts ≡ o .parts
 unfolding priced
 priced-parts terms age price o = pick-case (λ (p : Obligation). p .parts ≡ o .parts) (eqb age (terms .grace .0)) _ _ (λ e. refl) (λ e. refl)
@@ -91,7 +91,7 @@ compensated-at-goes terms age price n o s =
 
 -- ---- all parts of a Close together
 module _ (d : DayEnd) (age : ℕ) (offers : List Offer) (n : ℕ) (o : Obligation) where
-  -- the obligation before and after the buy-in
+  -- the obligation before the buy-in, with its price stored
   abbrev pub first : Obligation
   first = priced (d .terms) age (d .price) o
 
@@ -132,7 +132,7 @@ pub compensated-one : (terms : Terms) (age price n : ℕ) (o : Obligation) → a
 unfolding compensatedAt compensated
 compensated-one terms age price n o e f = rw (eq-eqb age (terms .last .0) e, ne-eqb (o .parts .outstanding) 0 f)
 
--- a notice and a compensation do not come together
+-- no Close makes both a notice and a compensation for one obligation
 extras-most : (terms : Terms) (age price n : ℕ) (o r : Obligation) → terms .notice .0 < terms .last .0 →
     length (noticeAt terms age n o .lines) + length (compensatedAt terms age price n r .lines) ≤ 1
 unfolding noticeAt compensatedAt compensated
@@ -215,7 +215,7 @@ compensated-none price n o =
     (λ e. eqb-true (o .parts .outstanding) 0 e)
     (λ e. refl)
 
--- after a Close at age = last nothing of it is outstanding
+-- after a Close at age = last nothing of the obligation is outstanding
 pub last-none : (d : DayEnd) (offers : List Offer) (n : ℕ) (o : Obligation) → isDue (d .today) o ≡ true →
     ageAt (closedListed (d .closed)) (o .day) (d .today) .0 ≡ d .terms .last .0 → closedOne d offers n o .obligation .parts .outstanding ≡ 0
 unfolding closedOne compensatedAt
@@ -224,7 +224,7 @@ last-none d offers n o t e =
     rw (t, stages-obligation d age offers n o, eq-eqb age (d .terms .last .0) e)
     (compensated-none (d .price) n (bought d age offers n o .obligation))
 
--- what is not due stays as it is
+-- an obligation that is not due stays as it is
 pub not-due-same : (d : DayEnd) (offers : List Offer) (n : ℕ) (o : Obligation) → isDue (d .today) o ≡ false → closedOne d offers n o ≡ nothing o
 unfolding closedOne
 not-due-same d offers n o e = rw e

@@ -1,4 +1,5 @@
--- A Close of all obligations: 192 lines at most, and each row after it is its own obligation's.
+-- Laws on a Close of all obligations: it makes at most 192 lines, and it leaves each row as the Close of that
+-- obligation alone leaves it.
 use Prim.Native.Nat.{ℕ, zero, suc, _+_, _*_, _≤_, _<_}
 use native.Mathlib.Omega.{arith}
 use native.Mathlib.Numerals.{add-one}
@@ -59,7 +60,7 @@ module _ (d : DayEnd) (os : List Obligation) where
   rows-length offers zero = refl
   rows-length offers (suc n) = length-set (rowsUpTo d offers os n) n (closedAt d offers os n .obligation) ∙ rows-length offers n
 
-  -- a row is its obligation closed, if it is one of the first n
+  -- each of the first n rows is its obligation after its own Close
   pub rows-closed : (offers : List Offer) (n k : ℕ) → k < n → n ≤ length os → getD (rowsUpTo d offers os n) k noObligation ≡ closedAt d offers os k .obligation
   unfolding rowsUpTo
   rows-closed offers zero k h m = absurd (omega arith)
@@ -72,7 +73,7 @@ module _ (d : DayEnd) (os : List Obligation) where
       below : k < suc n → (k ≡ n → ⊥) → k < n
       below a b = omega arith
 
-  -- a row behind them is as it was
+  -- each row behind the first n is as it was
   pub rows-behind : (offers : List Offer) (n k : ℕ) → n ≤ k → getD (rowsUpTo d offers os n) k noObligation ≡ getD os k noObligation
   unfolding rowsUpTo
   rows-behind offers zero k h = refl
@@ -83,7 +84,7 @@ module _ (d : DayEnd) (os : List Obligation) where
       apart : suc n ≤ k → k ≡ n → ⊥
       apart a b = omega arith
 
--- ---- a Close as it goes on: the first n obligations are done
+-- ---- a Close in its course: the first n obligations are done
 pub record Done (d : DayEnd) (offers : List Offer) (os : List Obligation) (n : ℕ) (next : List Obligation) (count : ℕ) (ws ws' : List ℕ) : Type 0 where
   pub rows : next ≡ rowsUpTo d offers os n
   pub counted : count ≡ length (linesUpTo d offers os n)
@@ -115,7 +116,7 @@ module _ (d : DayEnd) (offers : List Offer) (os : List Obligation) (n : ℕ) (ne
             ∙ rw zero-add at (flat-stores ws 0 ls ms);
       })
 
-  -- lines at the front, and the words after them as they were
+  -- the lines are at the front, and the words behind them are as they were
   pub done-all : 6 * length ls ≤ length ws → ClosedAs (rowsUpTo d offers os n) ls next count ws ws'
   unfolding written
   done-all h = record {
@@ -124,7 +125,7 @@ module _ (d : DayEnd) (offers : List Offer) (os : List Obligation) (n : ℕ) (ne
     words = s .words ∙ sets-ahead ws (flat ls) (omega (arith, flat-length ls));
   }
 
--- there is room for the lines of the next obligation
+-- the lines of the next obligation have room
 pub done-room : (d : DayEnd) (l : Ledger) (n count : ℕ) (next : List Obligation) (ws ws' : List ℕ) → Closable d l ws → n < l .count →
     Done d (listed (l .offers)) (l .obligations) n next count ws ws' → Room count ws' (closedAt d (listed (l .offers)) (l .obligations) n)
 unfolding linesUpTo
@@ -138,7 +139,7 @@ done-room d l n count next ws ws' c h s =
       c .long,
     )
 
--- what the Close of the next obligation asks
+-- the requirement of the next obligation's Close holds
 pub done-closes : (d : DayEnd) (l : Ledger) (n : ℕ) (ws : List ℕ) → Closable d l ws → n < l .count → Closes d (l .offers) (obligationAt l n)
 done-closes d l n ws c h = record {
   sound = c .valid .sound n h;

@@ -1,4 +1,4 @@
--- What the functions of a Close ask, and what they promise of a lent list.
+-- What the functions of a Close require, and what they promise about a lent list.
 use Prim.Native.Nat.{ℕ, _≤_, _<_}
 use mathlib.Core.Path.{_≡_}
 use mathlib.Core.List.{List}
@@ -24,12 +24,12 @@ use Rattle.closing.specs.Lines.{written}
 abbrev pub taken : BuyIn → List Given
 taken b = take (b .count) (b .given)
 
--- the offers of a day, each within the limits of a price
+-- the offers of a day, of which none is above the highest price
 pub record Priced (offers : Offers) : Type 0 where
   pub few : offers .count ≤ 64
   pub prices : Every (λ x. x .price ≤ mostOfferPrice) (listed offers)
 
--- what was found can be bought in
+-- what is required so that all that was found can be bought in
 pub record Buys (o : Obligation) (b : BuyIn) : Type 0 where
   pub sound : Sound o
   pub size : length (b .given) ≡ 64
@@ -37,7 +37,7 @@ pub record Buys (o : Obligation) (b : BuyIn) : Type 0 where
   pub enough : units (taken b) ≤ o .parts .outstanding
   pub prices : Every (λ g. g .offer .price ≤ mostOfferPrice) (taken b)
 
--- what the Close of one obligation asks
+-- what the Close of one obligation requires
 pub record Closes (d : DayEnd) (offers : Offers) (o : Obligation) : Type 0 where
   pub sound : Sound o
   pub rises : Rises (d .closed)
@@ -45,12 +45,13 @@ pub record Closes (d : DayEnd) (offers : Offers) (o : Obligation) : Type 0 where
   pub rate-most : d .rate ≤ mostRate
   pub priced : Priced offers
 
--- accounts that take the penalties of 64 obligations and stay within the bound of a transfer (8,796,093,022,208)
+-- The accounts can take the penalties of 64 obligations and stay within the bound of a transfer (8,796,093,022,208).
 abbrev pub Near : List ℤ → Type 0
 Near accounts = (m : ℕ) → natAbs (getD accounts m (pos 0)) ≤ 8000000000000
 
--- what the Close of a ledger asks: a valid ledger, terms whose notice comes before the last day, closed days that rise,
--- limits of its price and rate, accounts that can take its penalties, and room for 192 lines of six words
+-- what the Close of a ledger requires: a valid ledger, terms whose notice comes before the last day, closed days that
+-- rise, a price and a rate within the limits, accounts that can take its penalties, and room for 192 lines of six words
+-- (C16)
 pub record Closable (d : DayEnd) (l : Ledger) (ws : List ℕ) : Type 0 where
   pub valid : ValidLedger l
   pub apart : d .terms .notice .0 < d .terms .last .0
@@ -60,7 +61,7 @@ pub record Closable (d : DayEnd) (l : Ledger) (ws : List ℕ) : Type 0 where
   pub accounts-near : Near (l .accounts)
   pub long : 1152 ≤ length ws
 
--- a result and its lines: how many there are, and the list with them at its front
+-- C15, Close: a result with its lines: how many lines there are, and the lent list with them at its front
 pub record ClosedAs {A : Type 0} (a : A) (ls : List Line) (r : A) (count : ℕ) (ws ws' : List ℕ) : Type 0 where
   pub result : r ≡ a
   pub counted : count ≡ length ls

@@ -1,4 +1,4 @@
--- A Close of all obligations, and of the accounts.
+-- What a Close does to all obligations and to the accounts.
 use Prim.Native.Nat.{ℕ, zero, suc}
 use mathlib.Core.List.{List, [], _++_}
 use lib.IntN.{ℤ}
@@ -19,7 +19,8 @@ use Rattle.closing.specs.declared.Line.{Line}
 use Rattle.closing.specs.Lines.{Made, nothing, then}
 use Rattle.closing.specs.Stages.{priced, penalised, noticeAt, buyInAt, compensatedAt}
 
--- 01, Close: what happens to an obligation that is due, in the order of the chapter
+-- C3, Close: what happens to an obligation that is due: its penalty, then a notice, then the buy-in, then compensation.
+-- Before these the price is stored at age = grace (B9).
 unfoldable pub stages : DayEnd → ℕ → List Offer → ℕ → Obligation → Made
 stages d age offers n o =
     then (then (then (penalised n (d .price) (d .rate) (priced (d .terms) age (d .price) o))
@@ -27,41 +28,42 @@ stages d age offers n o =
     (buyInAt (d .terms) age offers n))
     (compensatedAt (d .terms) age (d .price) n)
 
--- 01, Close: for each obligation with J reached and something outstanding
+-- C2, Close: what happens to an obligation. It is due if its J is today or earlier and something of it is outstanding;
+-- any other obligation stays as it is.
 unfoldable pub closedOne : DayEnd → List Offer → ℕ → Obligation → Made
 closedOne d offers n o =
     pick (isDue (d .today) o) (stages d (ageAt (closedListed (d .closed)) (o .day) (d .today) .0) offers n o) (nothing o)
 
--- obligation n of these at the Close
+-- obligation number n, as the Close leaves it, with its lines
 abbrev pub closedAt : DayEnd → List Offer → List Obligation → ℕ → Made
 closedAt d offers os n = closedOne d offers n (getD os n noObligation)
 
--- 01, Close: in rising number, all obligations once the first n of them are closed
+-- C2, Close: all obligations, in rising number, after the first n of them are closed
 unfoldable pub rowsUpTo : DayEnd → List Offer → List Obligation → ℕ → List Obligation
 rowsUpTo d offers os zero = os
 rowsUpTo d offers os (suc n) = set (rowsUpTo d offers os n) n (closedAt d offers os n .obligation)
 
--- 01, Close: in rising number, the lines of the first n obligations
+-- C2 and C3, Close: the lines of the first n obligations, in rising number
 unfoldable pub linesUpTo : DayEnd → List Offer → List Obligation → ℕ → List Line
 linesUpTo d offers os zero = []
 linesUpTo d offers os (suc n) = linesUpTo d offers os n ++ closedAt d offers os n .lines
 
--- 01, Close, penalty: debited to the seller's account, credited to the buyer's
+-- C4 and C5, Close: the accounts after the penalty of one obligation, which passes from the seller to the buyer
 unfoldable pub fined : Day → ℕ → ℕ → Obligation → List ℤ → List ℤ
 fined today price rate o accounts =
     pick (isDue today o) (transferred (o .seller) (o .buyer) (penalty (o .parts .outstanding) price rate) accounts) accounts
 
--- the accounts after the penalties of the first n obligations
+-- C5, Close: the accounts after the penalties of the first n obligations
 unfoldable pub accountsUpTo : Day → ℕ → ℕ → List Obligation → List ℤ → ℕ → List ℤ
 accountsUpTo today price rate os accounts zero = accounts
 accountsUpTo today price rate os accounts (suc n) =
     fined today price rate (getD os n noObligation) (accountsUpTo today price rate os accounts n)
 
--- 01, Close: all lines
+-- C3 to C15, Close: all lines
 abbrev pub closeLines : DayEnd → Ledger → List Line
 closeLines d l = linesUpTo d (listed (l .offers)) (l .obligations) (l .count)
 
--- 01, Close: the ledger after it; then offers are dropped
+-- C2 to C10 and C17, Close: the ledger after the Close; then the offers of the day are removed
 abbrev pub closedLedger : DayEnd → Ledger → Ledger
 closedLedger d l = record {
   obligations = rowsUpTo d (listed (l .offers)) (l .obligations) (l .count);

@@ -8,16 +8,16 @@ use Rattle.ledger.specs.declared.Obligation.{Obligation}
 use Rattle.closing.specs.declared.Line.{Line}
 use Rattle.closing.specs.declared.Closing.{Closing}
 
--- 01, Close: a line of six words
+-- C11, Close: the six words of a line
 abbrev pub wordsOf : Line → List ℕ
 wordsOf l = l .kind ∷ l .obligation ∷ l .quantity ∷ l .cents ∷ l .supplier ∷ l .price ∷ []
 
--- the words of lines, one line after another
+-- C11, Close: the words of several lines, one line after another
 unfoldable pub flat : List Line → List ℕ
 flat [] = []
 flat (l ∷ ls) = wordsOf l ++ flat ls
 
--- 01, Close: lines at the front of the lent list; the words after them keep their values
+-- C15, Close: the lines stand at the front of the lent list; each word behind them stays as it was
 unfoldable pub written : List Line → List ℕ → List ℕ
 written ls ws = flat ls ++ drop (length (flat ls)) ws
 
@@ -26,15 +26,15 @@ pub record Made : Type 0 where
   pub obligation : Obligation
   pub lines : List Line
 
--- a part that leaves the obligation as it is and has no line
+-- a part that leaves the obligation as it is and makes no line
 abbrev pub nothing : Obligation → Made
 nothing o = record { obligation = o; lines = [] }
 
--- a part with one line
+-- a part that makes one line
 abbrev pub one : Obligation → Line → Made
 one o l = record { obligation = o; lines = l ∷ [] }
 
--- one part after another
+-- C3, Close: one part after another; the second works on what the first has left, and its lines come behind
 unfoldable pub then : Made → (Obligation → Made) → Made
 then m f = record { obligation = f (m .obligation) .obligation; lines = m .lines ++ f (m .obligation) .lines }
 
@@ -42,7 +42,8 @@ then m f = record { obligation = f (m .obligation) .obligation; lines = m .lines
 abbrev pub Room : ℕ → List ℕ → Made → Type 0
 Room count ws m = 6 * (count + length (m .lines)) ≤ length ws
 
--- a part was carried out behind count lines: r is the obligation and the number of lines after it, ws' the list
+-- A part was carried out behind count lines. r has the obligation and the number of lines after it, and ws' is the list
+-- after it.
 pub record Wrote (count : ℕ) (ws : List ℕ) (r : Closing) (ws' : List ℕ) (m : Made) : Type 0 where
   pub made : r .obligation ≡ m .obligation
   pub counted : r .count ≡ count + length (m .lines)

@@ -1,4 +1,4 @@
--- What a Close does to one obligation of a number n that is due, item by item of the chapter Close.
+-- What a Close does to an obligation of number n that is due, in the order of the chapter Close.
 use Prim.Native.Nat.{ℕ}
 use mathlib.Core.List.{List, [], _∷_}
 use lib.Dec.{eqb}
@@ -13,23 +13,24 @@ use Rattle.ledger.specs.Obligations.{withGracePrice, inBuyIn, cashOf, buyingIn,
 use Rattle.closing.specs.declared.Line.{Line}
 use Rattle.closing.specs.Lines.{Made, nothing, one, then}
 
--- 01, Close: a line that names no supplier and no offer price
+-- C13, Close: a line whose last two words, supplier and price of the offer, are 0
 abbrev pub plainLine : ℕ → ℕ → ℕ → ℕ → Line
 plainLine kind n q cents = record { kind = kind; obligation = n; quantity = q; cents = cents; supplier = 0; price = 0 }
 
--- 01, Buy-in, the cap: the price of the Close at age = grace is kept
+-- B9, Buy-in: the Close at age = grace stores its price in the obligation
 unfoldable pub priced : Terms → ℕ → ℕ → Obligation → Obligation
 priced terms age price o = pick (eqb age (terms .grace .0)) (withGracePrice price o) o
 
--- 01, Close, penalty: kind 1, on all that is outstanding
+-- C4, C12 and C13, Close: a penalty is a line of kind 1, on all that is outstanding
 unfoldable pub penalised : ℕ → ℕ → ℕ → Obligation → Made
 penalised n price rate o = one o (plainLine 1 n (o .parts .outstanding) (penalty (o .parts .outstanding) price rate))
 
--- 01, Close, notice: kind 2, at age = notice
+-- C6, C12 and C13, Close: a notice is a line of kind 2 with 0 cents, at age = notice
 unfoldable pub noticeAt : Terms → ℕ → ℕ → Obligation → Made
 noticeAt terms age n o = pick (eqb age (terms .notice .0)) (one o (plainLine 2 n (o .parts .outstanding) 0)) (nothing o)
 
--- 01, Close, offers: kind 3, the charge being the value less the cash, which goes on from what was settled before
+-- C8, C9 and C12, Close: what one offer gives is bought in and makes a line of kind 3. Its charge is the value less the
+-- cash, and the cash goes on from the units that were settled before it.
 unfoldable pub boughtFrom : ℕ → Given → Obligation → Made
 boughtFrom n g o =
     one (buyingIn (g .quantity) o) (record {
@@ -41,22 +42,26 @@ boughtFrom n g o =
       price = g .offer .price;
     })
 
--- 01, Close, offers: one line for each offer that gives, in their order
+-- C9 and C14, Close: one line for each offer that gives, one after another
 unfoldable pub boughtAll : ℕ → List Given → Obligation → Made
 boughtAll n [] o = nothing o
 boughtAll n (g ∷ gs) o = then (boughtFrom n g o) (boughtAll n gs)
 
--- 01, Close, offers: at ages above grace up to last
+-- C7, Close: the buy-in, at ages above grace up to last. The offers for the obligation give in the order of the list
+-- `offers`. In a book this is the order of C7: rising price, then larger quantity, then earlier entry. It comes from
+-- offers/specs: Offer puts each new offer at its place among those that the book holds (`withOffer` in Held.antt), and
+-- `overtakes` in Rank.antt says which place that is. The clause `buy-ins` of the promise in journal/proofs/Demand3.antt says
+-- the same of every Close of every journal, from the offers as they were entered.
 unfoldable pub buyInAt : Terms → ℕ → List Offer → ℕ → Obligation → Made
 buyInAt terms age offers n o =
     pick (inBuyIn terms age) (boughtAll n (given n (o .parts .outstanding) offers) o) (nothing o)
 
--- 01, Close, compensation: kind 4, of what is left, if anything
+-- C10 and C12, Close: what is left, unless it is 0, is compensated and makes a line of kind 4
 unfoldable pub compensated : ℕ → ℕ → Obligation → Made
 compensated price n o =
     pick (eqb (o .parts .outstanding) 0) (nothing o)
     (one (compensating o) (plainLine 4 n (o .parts .outstanding) (compensation (o .parts .outstanding) price)))
 
--- 01, Close, compensation: at age = last
+-- C10, Close: compensation comes at age = last
 unfoldable pub compensatedAt : Terms → ℕ → ℕ → ℕ → Obligation → Made
 compensatedAt terms age price n o = pick (eqb age (terms .last .0)) (compensated price n o) (nothing o)

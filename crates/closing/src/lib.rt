@@ -22,7 +22,8 @@ ghost use Rattle.closing.specs.Stages.{priced, penalised, noticeAt, boug
 ghost use Rattle.closing.specs.Close.{stages, closedOne, rowsUpTo, fined, accountsUpTo, closedLedger, closeLines};
 ghost use Rattle.closing.specs.Asked.{taken, Priced, Buys, Closes, Near, Closable, ClosedAs};
 
-// What a Close goes by: the book's days and terms, and the price and the rate that it was given.
+// What a Close works with: the closed days, the terms and the day of the book, and the price and the rate that it was
+// given.
 pub struct DayEnd {
     pub closed: ClosedDays,
     pub terms: Terms,
@@ -31,7 +32,7 @@ pub struct DayEnd {
     pub rate: u64,
 }
 
-// A line of a Close. Kinds: 1 penalty, 2 notice, 3 bought, 4 compensated.
+// A line of a Close. The kind is 1 for a penalty, 2 for a notice, 3 for a quantity bought in and 4 for compensation.
 pub struct Line {
     pub kind: u64,
     pub obligation: u64,
@@ -41,7 +42,7 @@ pub struct Line {
     pub price: u64,
 }
 
-// An obligation as its Close goes on, and how many lines there are so far.
+// An obligation in the course of its Close, and how many lines there are so far.
 pub struct Closing {
     pub obligation: Obligation,
     pub count: usize,
@@ -59,7 +60,7 @@ pub struct ClosedLedger {
     pub count: usize,
 }
 
-// A line is written behind the count lines so far.
+// Writes a line behind the count lines that are there.
 fn put_line(lines: &mut [u64], count: usize, line: Line)
     requires { ⌜ 6 * (count + 1) ≤ length (now lines) ⌝ }
     ensures { λ _. ⌜ now (lines .exit) ≡ sets (now (lines .entry)) (6 * count) (wordsOf line) ⌝ }
@@ -73,7 +74,7 @@ fn put_line(lines: &mut [u64], count: usize, line: Line)
     lines[at + 5] = line.price;
 }
 
-// One line is reported of an obligation, which is then as given.
+// Reports one line for an obligation, and returns the obligation as it is given.
 fn report(next: Obligation, count: usize, line: Line, lines: &mut [u64]) -> Closing
     requires { ⌜ Room count (now lines) (one next line) ⌝ }
     ensures { λ r. ⌜ Wrote count (now (lines .entry)) r (now (lines .exit)) (one next line) ⌝ }
@@ -85,7 +86,7 @@ fn report(next: Obligation, count: usize, line: Line, lines: &mut [u64]) -> Clos
     }
 }
 
-// At age = grace the price is kept, for the cap.
+// Stores the price in the obligation at age = grace. The cap needs it later.
 fn keep_price(o: Obligation, terms: Terms, age: ClearingDays, price: u64) -> Obligation
     ensures { λ r. ⌜ r ≡ priced terms (age .0) price o ⌝ }
 {
@@ -96,7 +97,7 @@ fn keep_price(o: Obligation, terms: Terms, age: ClearingDays, price: u64) -> Obl
     o
 }
 
-// The penalty on what is outstanding before any buy-in.
+// Reports the penalty on what is outstanding before any buy-in.
 fn penalise(s: Closing, number: u64, price: u64, rate: u64, lines: &mut [u64]) -> Closing
     requires { ⌜ (Sound (s .obligation)) × (price ≤ mostClosePrice) × (rate ≤ mostRate) ⌝ }
     requires { ⌜ Room (s .count) (now lines) (penalised number price rate (s .obligation)) ⌝ }
@@ -116,7 +117,7 @@ fn penalise(s: Closing, number: u64, price: u64, rate: u64, lines: &mut [u64]) -
     report(o, s.count, line, lines)
 }
 
-// At age = notice, a notice.
+// Reports a notice at age = notice.
 fn give_notice(
     s: Closing,
     number: u64,
@@ -144,7 +145,7 @@ fn give_notice(
     s
 }
 
-// One offer gives.
+// Buys in what one offer gives, and reports it.
 fn buy_from(s: Closing, number: u64, from: Given, lines: &mut [u64]) -> Closing
     requires { ⌜ (Takes (s .obligation) (from .quantity)) × (from .offer .price ≤ mostOfferPrice) ⌝ }
     requires { ⌜ Room (s .count) (now lines) (boughtFrom number from (s .obligation)) ⌝ }
@@ -165,7 +166,7 @@ fn buy_from(s: Closing, number: u64, from: Given, lines: &mut [u64]) -> Closing
     report(next, s.count, line, lines)
 }
 
-// All that offers give is bought in, in their order.
+// Buys in what each offer gives, in the order of the auction.
 fn buy_all(start: Closing, number: u64, bought: BuyIn, lines: &mut [u64]) -> Closing
     requires { ⌜ Buys (start .obligation) bought ⌝ }
     requires { ⌜ Room (start .count) (now lines) (boughtAll number (taken bought) (start .obligation)) ⌝ }
@@ -183,7 +184,7 @@ fn buy_all(start: Closing, number: u64, bought: BuyIn, lines: &mut [u64]) -> Clo
     s
 }
 
-// At ages above grace up to last, the buy-in.
+// Makes the buy-in at ages above grace up to last.
 fn buy_in(
     s: Closing,
     number: u64,
@@ -205,7 +206,7 @@ fn buy_in(
     s
 }
 
-// At age = last, what is left is compensated, if anything is.
+// Compensates at age = last what is left, unless it is 0.
 fn compensate(
     s: Closing,
     number: u64,
@@ -240,7 +241,7 @@ fn compensate(
     s
 }
 
-// What a Close does to an obligation of some age that is due.
+// Closes an obligation that is due and has this age.
 fn close_due(
     o: Obligation,
     number: u64,
@@ -266,7 +267,7 @@ fn close_due(
     compensate(bought, number, terms, age, price, lines)
 }
 
-// What a Close does to an obligation.
+// Closes one obligation. If it is not due, it stays as it is.
 fn close_one(
     o: Obligation,
     number: u64,
@@ -291,7 +292,7 @@ fn close_one(
     }
 }
 
-// What a Close does to all obligations, in rising number.
+// Closes all obligations, in rising number.
 fn close_all(l: Ledger, day: DayEnd, lines: &mut [u64]) -> ClosedRows
     requires { ⌜ Closable day l (now lines) ⌝ }
     ensures { λ r. ⌜ ClosedAs (rowsUpTo day (listed (l .offers)) (l .obligations) (l .count)) (closeLines day l) (r .obligations) (r .count) (now (lines .entry)) (now (lines .exit)) ⌝ }
@@ -316,7 +317,7 @@ fn close_all(l: Ledger, day: DayEnd, lines: &mut [u64]) -> ClosedRows
     }
 }
 
-// The penalty of an obligation that is due, debited to the seller and credited to the buyer.
+// Moves the penalty of an obligation that is due from the account of the seller to that of the buyer.
 fn fine(accounts: [i64; 32], o: Obligation, today: Day, price: u64, rate: u64) -> [i64; 32]
     requires { ⌜ (Sound o) × (price ≤ mostClosePrice) × (rate ≤ mostRate) × (Bounded accounts) ⌝ }
     ensures { λ r. ⌜ r ≡ fined today price rate o accounts ⌝ }
@@ -331,7 +332,7 @@ fn fine(accounts: [i64; 32], o: Obligation, today: Day, price: u64, rate: u64) -
     accounts
 }
 
-// The penalties of all obligations on the accounts.
+// Moves the penalties of all obligations.
 fn fine_all(l: Ledger, today: Day, price: u64, rate: u64) -> [i64; 32]
     requires { ⌜ (ValidLedger l) × (Near (l .accounts)) × (price ≤ mostClosePrice) × (rate ≤ mostRate) ⌝ }
     ensures { λ r. ⌜ r ≡ accountsUpTo today price rate (l .obligations) (l .accounts) (l .count) ⌝ }
@@ -349,7 +350,7 @@ fn fine_all(l: Ledger, today: Day, price: u64, rate: u64) -> [i64; 32]
     accounts
 }
 
-// The Close of a ledger: every obligation, its lines, its penalty on the accounts. Then the offers are dropped.
+// Closes a ledger: it reports the lines of all obligations and moves their penalties. Then it removes the offers.
 pub fn close(l: Ledger, day: DayEnd, lines: &mut [u64]) -> ClosedLedger
     requires { ⌜ Closable day l (now lines) ⌝ }
     ensures { λ r. ⌜ ClosedAs (closedLedger day l) (closeLines day l) (r .ledger) (r .count) (now (lines .entry)) (now (lines .exit)) ⌝ }

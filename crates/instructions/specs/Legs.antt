@@ -1,7 +1,7 @@
 -- Instructions: the legs that members enter.
 use Prim.Native.Nat.{ℕ, _+_, _≤_}
 use mathlib.Core.Path.{_≡_}
-use mathlib.Core.Bool.{Bool, true, false, not}
+use mathlib.Core.Bool.{Bool, true, false}
 use mathlib.Core.List.{List}
 use lib.Dec.{ltb}
 use lib.ListN.{length, getD, set, take, replicate}
@@ -16,21 +16,21 @@ use Rattle.instructions.specs.declared.Legs.{Legs}
 use Rattle.instructions.specs.declared.FetchedLeg.{FetchedLeg}
 use Rattle.instructions.specs.declared.FetchedLeg.the-variants.{Found, Absent}
 
--- 01, Instructions: a leg that waits is neither withdrawn nor matched
+-- E3, Enter: a leg waits, was withdrawn, or was matched
 abbrev pub isWaiting : LegState → Bool
 isWaiting Waiting = true
 isWaiting Withdrawn = false
 isWaiting (Matched n) = false
 
--- what stands in a free place: a withdrawn leg of zeros
+-- a place that no leg has taken holds a withdrawn leg of zeros
 abbrev pub noLeg : Leg
 noLeg = record { member = 0; other = 0; side = 0; quantity = 0; amount = 0; day = day 0; state = Withdrawn }
 
--- 01, Instructions: a book holds 128 legs over its whole life; a fresh one has none of them
+-- E2, Enter, and O5, Open: a book takes 128 legs in its life; a fresh one has none
 abbrev pub noLegs : Legs
 noLegs = record { rows = replicate 128 noLeg; count = 0 }
 
--- 01, Instructions: the legs entered so far, numbered from 0
+-- E2, Enter: the legs entered so far, numbered from 0
 abbrev pub entered : Legs → List Leg
 entered s = take (s .count) (s .rows)
 
@@ -46,24 +46,19 @@ inState state l = record {
   state = state;
 }
 
--- the leg with a number; zeros where there is none
+-- the leg with a number; a number without a leg gives a leg of zeros, which no rule speaks of
 abbrev pub legAt : Legs → ℕ → Leg
 legAt s n = getD (s .rows) n noLeg
 
--- 01, Refusals, 13: a call that names a leg fetches it
+-- R13, Refusals: Withdraw names a leg, fetches it by its number, and finds it if the number is below the count
 unfoldable pub fetchedLeg : Legs → ℕ → FetchedLeg
 fetchedLeg s n = pick (ltb n (s .count)) (Found (legAt s n)) Absent
 
--- 01, Refusals, 13, of Withdraw: its condition for each answer of the fetch: no such leg, or one that does not wait
-abbrev pub notWaiting : FetchedLeg → Bool
-notWaiting (Found l) = not (isWaiting (l .state))
-notWaiting Absent = true
-
--- 01, Withdraw and matching: the leg with a number goes into another state
+-- E10, Enter, and T1, Withdraw: the leg with a number goes into another state
 abbrev pub withState : ℕ → LegState → Legs → Legs
 withState n state s = record { rows = set (s .rows) n (inState state (legAt s n)); count = s .count }
 
--- 01, Enter: one leg more
+-- E2, Enter: a new leg gets the next number
 abbrev pub withLeg : Leg → Legs → Legs
 withLeg l s = record { rows = set (s .rows) (s .count) l; count = s .count + 1 }
 

@@ -11,23 +11,23 @@ use Rattle.instructions.specs.declared.Fit.{Fit}
 use Rattle.instructions.specs.declared.Fit.the-variants.{With, Nobody}
 use Rattle.instructions.specs.Legs.{isWaiting, entered}
 
--- 01, Enter: side 0 delivers; of two legs, the one that delivers
+-- E1, Enter: the member delivers on side 0; of two legs, the one that delivers
 abbrev pub delivering : Leg → Leg → Leg
 delivering l other = pick (eqb (l .side) 0) l other
 
--- 01, Enter: side 1 receives; of two legs, the one that receives
+-- E1, Enter: the member receives on side 1; of two legs, the one that receives
 abbrev pub receiving : Leg → Leg → Leg
 receiving l other = pick (eqb (l .side) 0) other l
 
--- 01, Instructions, matching: each leg's member is the other leg's other member
+-- E4, Enter: each leg has the other's member as its other member
 abbrev pub membersCross : Leg → Leg → Bool
 membersCross l new = eqb (l .member) (new .other) && eqb (l .other) (new .member)
 
--- 01, Instructions, matching: the same quantity and settlement day
+-- E4, Enter: both legs have the same Q and the same J
 abbrev pub sameBusiness : Leg → Leg → Bool
 sameBusiness l new = eqb (l .quantity) (new .quantity) && eqb (l .day .0) (new .day .0)
 
--- 01, Instructions, matching: whether a leg and a new one fit
+-- E4, Enter: whether a new leg fits one that was entered before
 unfoldable pub fits : Leg → Leg → Bool
 fits l new =
     isWaiting (l .state)
@@ -40,6 +40,6 @@ unfoldable pub firstFit : Leg → ℕ → List Leg → Fit
 firstFit new k [] = Nobody
 firstFit new k (l ∷ ls) = pick (fits l new) (With k) (firstFit new (k + 1) ls)
 
--- 01, Instructions, matching: the lowest waiting leg that fits
+-- E5, Enter: of the legs that fit, the one with the lowest number
 unfoldable pub lowestFit : Legs → Leg → Fit
 lowestFit s new = firstFit new 0 (entered s)

@@ -5,7 +5,8 @@ ghost use Prim.Native.Nat.{_≤_, _<_};
 ghost use Rattle.instructions.specs.Legs.{isWaiting, noLegs, inState, fetchedLeg, withState, withLeg};
 ghost use Rattle.instructions.specs.Match.{delivering, receiving, membersCross, sameBusiness, fits, lowestFit};
 
-// What has become of a leg. A matched one names its obligation. Withdrawn stands first, since a free place holds it.
+// What has become of a leg. A matched leg names its obligation. Withdrawn stands first, because a place that no leg has
+// taken holds it.
 pub enum LegState {
     Withdrawn,
     Waiting,
@@ -41,7 +42,7 @@ pub enum Fit {
     Nobody,
 }
 
-// What stands in a free place. It is withdrawn, so that it matches nothing.
+// A place that no leg has taken holds this leg. It is withdrawn, so that it matches nothing.
 const NO_LEG: Leg = Leg {
     member: 0,
     other: 0,
@@ -138,7 +139,7 @@ impl Leg {
 }
 
 impl Legs {
-    // No legs.
+    // The legs of a fresh book: there are none.
     pub fn none() -> Legs
         ensures { λ r. ⌜ r ≡ noLegs ⌝ }
     {
@@ -148,7 +149,7 @@ impl Legs {
         }
     }
 
-    // The leg with a number.
+    // Finds the leg with a number.
     pub fn fetch(self, number: u64) -> FetchedLeg
         requires { ⌜ self .count ≤ 128 ⌝ }
         ensures { λ r. ⌜ r ≡ fetchedLeg self number ⌝ }
@@ -161,7 +162,7 @@ impl Legs {
         FetchedLeg::Absent
     }
 
-    // The leg with a number, in another state.
+    // Puts the leg with a number into another state.
     pub fn set_state(mut self, number: u64, state: LegState) -> Legs
         requires { ⌜ number < 128 ⌝ }
         ensures { λ r. ⌜ r ≡ withState number state self ⌝ }
@@ -173,7 +174,7 @@ impl Legs {
         self
     }
 
-    // One leg more, with the next number.
+    // Adds a leg, which gets the next number.
     pub fn add(mut self, leg: Leg) -> Legs
         requires { ⌜ self .count < 128 ⌝ }
         ensures { λ r. ⌜ r ≡ withLeg leg self ⌝ }
@@ -184,7 +185,7 @@ impl Legs {
         self
     }
 
-    // The lowest leg that a new one matches.
+    // Finds the lowest leg that a new one matches.
     pub fn lowest_fit(self, new: Leg) -> Fit
         requires { ⌜ self .count ≤ 128 ⌝ }
         ensures { λ r. ⌜ r ≡ lowestFit self new ⌝ }

@@ -1,14 +1,15 @@
 -- A new ledger is valid, and a changed obligation, a new one and a new offer leave a valid ledger.
 use Prim.Native.Nat.{ℕ, _+_, _<_}
 use native.Mathlib.Omega.{arith}
-use mathlib.Core.Path.{_≡_, refl, sym, _∙_}
-use mathlib.Core.Bool.{Bool, true, false, false≢true}
+use mathlib.Core.Path.{_≡_, refl, _∙_}
+use mathlib.Core.Bool.{Bool, true, false}
 use lib.Dec.{ltb}
 use lib.ListN.{length-set}
-use borrow.Author.Tests.{ltb-true}
+use borrow.Author.Tests.{ltb-true, lt-ltb}
 use Rattle.basics.specs.Choice.{pick}
 use Rattle.basics.specs.Lists.Every.{nobody}
 use Rattle.basics.specs.Lists.Sorted.{empty}
+use Rattle.basics.proofs.Cases.{pick-case}
 use Rattle.basics.proofs.Everywhere.{every-map}
 use Rattle.basics.proofs.Places.{set-case}
 use Rattle.netting.specs.Accounts.{balance}
@@ -17,9 +18,10 @@ use Rattle.offers.proofs.Holding.{size-with, every-with, listed-with}
 use Rattle.offers.proofs.Ranking.{inserted-in-rank}
 use Rattle.ledger.specs.declared.Obligation.{Obligation}
 use Rattle.ledger.specs.declared.Ledger.{Ledger}
+use Rattle.ledger.specs.declared.Fetched.{Fetched}
 use Rattle.ledger.specs.declared.Fetched.the-variants.{Found, Absent}
 use Rattle.ledger.specs.Obligations.{noObligation, Sound}
-use Rattle.ledger.specs.Ledger.{newLedger, obligationAt, fetched, isAbsent, withObligation, withNew, withOfferFor, SoundOffer, ValidLedger}
+use Rattle.ledger.specs.Ledger.{newLedger, obligationAt, fetched, withObligation, withNew, withOfferFor, SoundOffer, ValidLedger}
 
 -- no obligations, no offers, all accounts zero
 pub new-valid : ValidLedger newLedger
@@ -49,22 +51,15 @@ found-there l n o e = by (ltb n (l .count)) refl e
     by true t q = record { below = t; same = cc }
     by false t q = let z : _≡_ {A = ℕ} 0 1 = cc in absurd (omega arith)
 
-pub absent-not : (l : Ledger) (n : ℕ) → fetched l n ≡ Absent → ltb n (l .count) ≡ false
+-- an obligation of the count is found
+pub below-found : (l : Ledger) (n : ℕ) → n < l .count → fetched l n ≡ Found (obligationAt l n)
 unfolding fetched
-absent-not l n e = by (ltb n (l .count)) refl e
-  where
-    by : (t : Bool) → ltb n (l .count) ≡ t → pick t (Found (obligationAt l n)) Absent ≡ Absent → ltb n (l .count) ≡ false
-    by true t q = let z : _≡_ {A = ℕ} 0 1 = cc in absurd (omega arith)
-    by false t q = t
+below-found l n h = rw (lt-ltb n (l .count) h)
 
--- an obligation that is not absent is one of the count
-pub present-below : (l : Ledger) (n : ℕ) → isAbsent (fetched l n) ≡ false → n < l .count
+-- what holds of both answers of a fetch holds of the fetch
+pub fetched-case : (P : Fetched → Type 0) (l : Ledger) (n : ℕ) → P Absent → (n < l .count → P (Found (obligationAt l n))) → P (fetched l n)
 unfolding fetched
-present-below l n e = by (ltb n (l .count)) refl e
-  where
-    by : (t : Bool) → ltb n (l .count) ≡ t → isAbsent (pick t (Found (obligationAt l n)) Absent) ≡ false → n < l .count
-    by true t q = ltb-true n (l .count) t
-    by false t q = absurd (false≢true (sym q))
+fetched-case P l n f g = pick-case P (ltb n (l .count)) _ _ (λ e. g (ltb-true n (l .count) e)) (λ e. f)
 
 module _ (l : Ledger) (v : ValidLedger l) where
   -- an obligation that was found is sound

@@ -1,7 +1,7 @@
 -- The ledger: obligations, offers and accounts.
 use Prim.Native.Nat.{ℕ, _+_, _≤_, _<_}
 use mathlib.Core.Path.{_≡_}
-use mathlib.Core.Bool.{Bool, true, false}
+use mathlib.Core.Bool.{false}
 use lib.Dec.{ltb}
 use lib.IntN.{pos}
 use lib.ListN.{length, getD, set, replicate}
@@ -18,36 +18,31 @@ use Rattle.ledger.specs.declared.Fetched.the-variants.{Found, Absent}
 use Rattle.ledger.specs.declared.Ledger.{Ledger}
 use Rattle.ledger.specs.Obligations.{noObligation, Sound}
 
--- 01, Open and Month: no obligations, no offers, thirty-two accounts of zero
+-- O5, Open, and M1, Month: a fresh book has no obligations and no offers, and its 32 accounts are zero
 abbrev pub newLedger : Ledger
 newLedger = record { obligations = replicate 64 noObligation; count = 0; offers = noOffers; accounts = replicate 32 (pos 0) }
 
--- the obligation with a number; zeros where there is none
+-- the obligation with a number; a number without one gives an obligation of zeros, which no rule speaks of
 abbrev pub obligationAt : Ledger → ℕ → Obligation
 obligationAt l n = getD (l .obligations) n noObligation
 
--- 01, Refusals: a call that names an obligation first fetches it
+-- A4, Refusals: a call that names an obligation fetches it by its number, and finds it if the number is below the count
 unfoldable pub fetched : Ledger → ℕ → Fetched
 fetched l n = pick (ltb n (l .count)) (Found (obligationAt l n)) Absent
 
--- 01, Refusals, 13, of a call that names an obligation: its condition for each answer of the fetch
-abbrev pub isAbsent : Fetched → Bool
-isAbsent (Found o) = false
-isAbsent Absent = true
-
--- the obligation with a number, changed
+-- the ledger with another obligation under a number
 abbrev pub withObligation : ℕ → Obligation → Ledger → Ledger
 withObligation n o l = record { obligations = set (l .obligations) n o; count = l .count; offers = l .offers; accounts = l .accounts }
 
--- 01, Instructions: obligations are numbered from 0
+-- E8, Enter: a new obligation gets the next number, from 0 on
 abbrev pub withNew : Obligation → Ledger → Ledger
 withNew o l = record { obligations = set (l .obligations) (l .count) o; count = l .count + 1; offers = l .offers; accounts = l .accounts }
 
--- 01, Buy-in, Offer: one offer more
+-- B5, Buy-in: the book holds one offer more
 abbrev pub withOfferFor : Offer → Ledger → Ledger
 withOfferFor o l = record { obligations = l .obligations; count = l .count; offers = withOffer (l .offers) o; accounts = l .accounts }
 
--- 01, Month: the accounts become zero
+-- M10, Month: the accounts become zero
 abbrev pub clearedLedger : Ledger → Ledger
 clearedLedger l = record { obligations = l .obligations; count = l .count; offers = l .offers; accounts = replicate 32 (pos 0) }
 

@@ -11,11 +11,11 @@ use Rattle.ledger.specs.declared.Terms.{Terms}
 use Rattle.ledger.specs.declared.Parts.{Parts}
 use Rattle.ledger.specs.declared.Obligation.{Obligation}
 
--- nothing of a quantity of 0
+-- the parts of a quantity of 0
 abbrev pub noParts : Parts
 noParts = record { delivered = 0; «bought_in» = 0; compensated = 0; cancelled = 0; outstanding = 0 }
 
--- what stands in a free place
+-- a place that no obligation has taken holds this one
 abbrev pub noObligation : Obligation
 noObligation = record {
   seller = 0;
@@ -71,7 +71,7 @@ withGracePrice price o = record {
   «grace_price» = price;
 }
 
--- 01, Instructions: a new obligation, of which all is outstanding
+-- E8 and E9, Enter: a new obligation, of which the whole of Q is outstanding
 abbrev pub newObligation : ℕ → ℕ → ℕ → ℕ → Day → Obligation
 newObligation seller buyer quantity amount j = record {
   seller = seller;
@@ -85,19 +85,19 @@ newObligation seller buyer quantity amount j = record {
   «grace_price» = 0;
 }
 
--- 01, Whole journals: the sum of the parts, which is the instructed quantity
+-- J10, Whole journals: the sum of the parts, which is Q
 unfoldable pub allParts : Parts → ℕ
 allParts p = p .delivered + p .«bought_in» + p .compensated + p .cancelled + p .outstanding
 
--- 01, Deliver: what is delivered or bought in so far
+-- V3, Deliver: the units settled are those delivered and those bought in
 unfoldable pub settled : Obligation → ℕ
 settled o = o .parts .delivered + o .parts .«bought_in»
 
--- 01, Deliver: the cash for q units that are settled next
+-- V2, Deliver: the cash for q units that are settled next
 unfoldable pub cashOf : Obligation → ℕ → ℕ
 cashOf o q = cash (o .amount) (o .quantity) (settled o) (settled o + q)
 
--- 01, Deliver: q units move from outstanding to delivered
+-- V1, Deliver: q units move from outstanding to delivered
 unfoldable pub delivering : ℕ → Obligation → Obligation
 delivering q o =
     let p = o .parts in
@@ -109,24 +109,24 @@ delivering q o =
       outstanding = p .outstanding - q;
     }) o
 
--- 01, Cancel: the seller and the buyer are the parties
+-- K1, Cancel: the seller and the buyer are the parties
 unfoldable pub isParty : Obligation → ℕ → Bool
 isParty o member = eqb (o .seller) member || eqb (o .buyer) member
 
--- 01, Cancel: whether a party's wish is recorded
+-- K1, Cancel: whether a party's wish is recorded
 unfoldable pub hasWished : Obligation → ℕ → Bool
 hasWished o member = pick (eqb (o .seller) member) (o .«seller_wish») (o .«buyer_wish»)
 
--- 01, Cancel: a party's wish is recorded
+-- K1, Cancel: the obligation with a party's wish recorded
 unfoldable pub withWish : ℕ → Obligation → Obligation
 withWish member o =
     pick (eqb (o .seller) member) (withWishes true (o .«buyer_wish») o) (withWishes (o .«seller_wish») true o)
 
--- 01, Cancel: both parties wish it
+-- K3, Cancel: whether the wishes of both parties are recorded
 unfoldable pub bothWish : Obligation → Bool
 bothWish o = o .«seller_wish» && o .«buyer_wish»
 
--- 01, Cancel: all that is outstanding moves to cancelled
+-- K3, Cancel: all that is outstanding becomes cancelled
 unfoldable pub cancelling : Obligation → Obligation
 cancelling o =
     let p = o .parts in
@@ -138,23 +138,23 @@ cancelling o =
       outstanding = 0;
     }) o
 
--- 01, Cancel: the second party's wish cancels, a first wish is only recorded
+-- K2 and K3, Cancel: the first wish is only recorded, the wish of the other party cancels
 unfoldable pub wishing : ℕ → Obligation → Obligation
 wishing member o = pick (bothWish (withWish member o)) (cancelling (withWish member o)) (withWish member o)
 
--- 01, Cancel: the quantity moved, 0 for a first wish
+-- K2 and K3, Cancel: the quantity that a wish moves, which is 0 for the first wish
 unfoldable pub movedByWish : ℕ → Obligation → ℕ
 movedByWish member o = pick (bothWish (withWish member o)) (o .parts .outstanding) 0
 
--- 01, Buy-in: the ages above grace up to last
+-- B7, Buy-in, and C7, Close: the age is above grace and not above last
 abbrev pub inBuyIn : Terms → ℕ → Bool
 inBuyIn terms age = ltb (terms .grace .0) age && leb age (terms .last .0)
 
--- 01, Close: J reached and something outstanding
+-- C2, Close: J is today or earlier, and something is outstanding
 unfoldable pub isDue : Day → Obligation → Bool
 isDue today o = leb (o .day .0) (today .0) && ltb 0 (o .parts .outstanding)
 
--- 01, Close, offers: q units move from outstanding to bought in
+-- C8, Close: q units move from outstanding to bought in
 unfoldable pub buyingIn : ℕ → Obligation → Obligation
 buyingIn q o =
     let p = o .parts in
@@ -166,7 +166,7 @@ buyingIn q o =
       outstanding = p .outstanding - q;
     }) o
 
--- 01, Close, compensation: all that is left moves to compensated
+-- C10, Close: all that is left becomes compensated
 unfoldable pub compensating : Obligation → Obligation
 compensating o =
     let p = o .parts in

@@ -28,7 +28,7 @@ pub struct Parts {
     pub outstanding: u64,
 }
 
-// A seller owes a buyer a quantity against an amount on a settlement day (01's J).
+// A seller owes a buyer a quantity against an amount on a settlement day, which docs/RULES.md calls J.
 pub struct Obligation {
     pub seller: u64,
     pub buyer: u64,
@@ -56,7 +56,7 @@ pub struct Ledger {
     pub accounts: [i64; 32],
 }
 
-// Nothing yet of a quantity of 0.
+// The parts of a quantity of 0.
 const NO_PARTS: Parts = Parts {
     delivered: 0,
     bought_in: 0,
@@ -65,7 +65,7 @@ const NO_PARTS: Parts = Parts {
     outstanding: 0,
 };
 
-// What stands in a free place.
+// A place that no obligation has taken holds this one.
 const NO_OBLIGATION: Obligation = Obligation {
     seller: 0,
     buyer: 0,
@@ -93,7 +93,7 @@ impl Terms {
 }
 
 impl Obligation {
-    // A new obligation, all of it outstanding.
+    // Makes a new obligation, of which all is outstanding.
     pub fn new(seller: u64, buyer: u64, quantity: u64, amount: u64, day: Day) -> Obligation
         ensures { λ r. ⌜ r ≡ newObligation seller buyer quantity amount day ⌝ }
     {
@@ -112,7 +112,7 @@ impl Obligation {
         }
     }
 
-    // What has been settled against cash: delivered or bought in.
+    // The units settled so far: those delivered and those bought in.
     fn settled_so_far(self) -> u64
         requires { ⌜ Sound self ⌝ }
         ensures { λ r. ⌜ r ≡ settled self ⌝ }
@@ -143,7 +143,7 @@ impl Obligation {
         next
     }
 
-    // Whether a Close takes it up: its day is reached and something is outstanding.
+    // Whether a Close takes this obligation: its day has come, and something is outstanding.
     pub fn is_due(self, today: Day) -> bool
         ensures { λ r. ⌜ r ≡ isDue today self ⌝ }
     {
@@ -181,7 +181,7 @@ impl Obligation {
         next
     }
 
-    // The price of the Close at age = grace is kept.
+    // Keeps the price of the Close at age = grace.
     pub fn keep_price(self, price: u64) -> Obligation
         ensures { λ r. ⌜ r ≡ withGracePrice price self ⌝ }
     {
@@ -210,7 +210,7 @@ impl Obligation {
         self.buyer_wish
     }
 
-    // A party's wish to cancel, recorded.
+    // Records a party's wish to cancel.
     fn with_wish(self, member: u64) -> Obligation
         ensures { λ r. ⌜ r ≡ withWish member self ⌝ }
     {
@@ -247,7 +247,7 @@ impl Obligation {
         next
     }
 
-    // A party's wish, which cancels what is outstanding if the other party has wished it before.
+    // Records a party's wish, and cancels what is outstanding if the other party has wished it before.
     pub fn wish(self, member: u64) -> Obligation
         requires { ⌜ Sound self ⌝ }
         ensures { λ r. ⌜ r ≡ wishing member self ⌝ }
@@ -275,7 +275,7 @@ impl Obligation {
 }
 
 impl Ledger {
-    // No obligations, no offers, all accounts zero.
+    // The ledger of a fresh book: it has no obligations and no offers, and all accounts are zero.
     pub fn new() -> Ledger
         ensures { λ r. ⌜ r ≡ newLedger ⌝ }
     {
@@ -287,7 +287,7 @@ impl Ledger {
         }
     }
 
-    // The obligation with a number.
+    // Finds the obligation with a number.
     pub fn fetch(self, number: u64) -> Fetched
         requires { ⌜ self .count ≤ 64 ⌝ }
         ensures { λ r. ⌜ r ≡ fetched self number ⌝ }
@@ -300,7 +300,7 @@ impl Ledger {
         Fetched::Absent
     }
 
-    // The obligation with a number, changed.
+    // Puts another obligation under a number.
     pub fn replace(mut self, number: u64, next: Obligation) -> Ledger
         requires { ⌜ number < 64 ⌝ }
         ensures { λ r. ⌜ r ≡ withObligation number next self ⌝ }
@@ -310,7 +310,7 @@ impl Ledger {
         self
     }
 
-    // One obligation more, with the next number.
+    // Adds an obligation, which gets the next number.
     pub fn add(mut self, next: Obligation) -> Ledger
         requires { ⌜ self .count < 64 ⌝ }
         ensures { λ r. ⌜ r ≡ withNew next self ⌝ }
@@ -321,7 +321,7 @@ impl Ledger {
         self
     }
 
-    // One offer more.
+    // Adds an offer to those of today.
     pub fn offer(mut self, next: Offer) -> Ledger
         requires { ⌜ self .offers .count < 64 ⌝ }
         ensures { λ r. ⌜ r ≡ withOfferFor next self ⌝ }
@@ -332,7 +332,7 @@ impl Ledger {
         self
     }
 
-    // All accounts zero.
+    // Sets all accounts to zero.
     pub fn clear(mut self) -> Ledger
         ensures { λ r. ⌜ r ≡ clearedLedger self ⌝ }
     {

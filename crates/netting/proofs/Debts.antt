@@ -1,5 +1,5 @@
--- Claims and debts: accounts whose balance is zero owe together what they claim together, so what is collected of the
--- debts is covered by the claims.
+-- Laws on claims and debts. Accounts whose balance is zero owe together as much as they claim together, so the claims
+-- cover what is collected of the debts.
 use Prim.Native.Nat.{ℕ, zero, suc, _+_, _*_, _^_, _≤_, _<_}
 use native.Mathlib.Nat.{zero-add}
 use native.Mathlib.Omega.{arith}
@@ -13,7 +13,7 @@ use Rattle.basics.specs.Lists.{total, sum}
 use Rattle.netting.specs.Accounts.{claim, owed, claims, balance, mostAccount, Bounded}
 use Rattle.netting.proofs.Signed.{claim-most}
 
--- the accounts and what they owe are what they claim
+-- the balance plus the sum owed is the sum claimed
 owed-back : (a : List ℤ) → balance a +ℤ pos (sum (map owed a)) ≡ pos (sum (claims a))
 unfolding balance total
 owed-back [] = refl
@@ -31,7 +31,7 @@ owed-back (negsuc n ∷ a) =
     ∙ owed-back a
     ∙ ap pos (sym (zero-add (sum (claims a))))
 
--- where the balance is zero, what is owed is what is claimed
+-- where the balance is zero, the sum owed is the sum claimed
 pub owed-claimed : (a : List ℤ) → balance a ≡ pos 0 → sum (map owed a) ≡ sum (claims a)
 owed-claimed a h =
     ap natAbs
@@ -46,12 +46,13 @@ within-owed [] (c ∷ cs) h =
 within-owed (z ∷ a) (c ∷ cs) h =
     let e = h 0 (omega arith) in let f = within-owed a cs (λ m l. h (suc m) (omega arith)) in omega arith
 
--- amounts that are each at most what their member owes, on accounts whose balance is zero, are no more than is claimed
+-- Where the balance is zero and each amount is at most what its member owes, the amounts add up to no more than is
+-- claimed.
 pub collected-covered : (a : List ℤ) (cs : List ℕ) → balance a ≡ pos 0 →
     ((m : ℕ) → m < length cs → getD cs m 0 ≤ owed (getD a m (pos 0))) → sum cs ≤ sum (claims a)
 collected-covered a cs z h = let e = owed-claimed a z in let f = within-owed a cs h in omega arith
 
--- a member's claim is that of its account
+-- the claim of a member is that of its account
 pub claim-at : (a : List ℤ) (m : ℕ) → getD (claims a) m 0 ≡ claim (getD a m (pos 0))
 claim-at [] m = refl
 claim-at (z ∷ a) zero = refl
@@ -61,7 +62,7 @@ claim-at (z ∷ a) (suc m) = claim-at a m
 pub claims-length : (a : List ℤ) → length (claims a) ≡ length a
 claims-length a = length-map a claim
 
--- all claims of 32 bounded accounts are together at most 2 ^ 48
+-- the claims of 32 bounded accounts add up to at most 2 ^ 48
 pub claims-small : (a : List ℤ) → length a ≡ 32 → Bounded a → sum (claims a) ≤ 2 ^ 48
 claims-small a members small =
     let s = sum-most (claims a) mostAccount

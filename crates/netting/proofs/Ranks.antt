@@ -1,4 +1,5 @@
--- Ranks: of members in a strict order as many have a rank below L as L says, and the order for a cent is such an order.
+-- Laws on ranks. In a strict order of members exactly L of them have a rank below L, and the order for a cent is such
+-- an order.
 use Prim.Native.Nat.{ℕ, zero, suc, _+_, _-_, _≤_, _<_}
 use native.Mathlib.Omega.{arith}
 use mathlib.Core.Bool.{Bool, true, false}
@@ -12,7 +13,7 @@ use Rattle.basics.specs.Lists.{countBelow}
 use Rattle.netting.specs.Shares.{comesBefore, rank}
 use Rattle.basics.proofs.Counts.{more, count-within, count-same, count-most, count-less}
 
--- two tests of order agree where each follows from the other
+-- two comparisons agree if each follows from the other
 ltb-same : (a b c d : ℕ) → (a < b → c < d) → (c < d → a < b) → ltb a b ≡ ltb c d
 ltb-same a b c d f g =
     ⊎-elim
@@ -23,13 +24,13 @@ ltb-same a b c d f g =
     other : b ≤ a → d ≤ c
     other h = ⊎-elim (λ (l : c < d). let m = g l in absurd (omega arith)) (λ (l : d ≤ c). l) (below-or-not c d)
 
--- a strict order in which of two members one comes before the other
+-- a strict order in which one of any two members comes before the other
 pub record Ranking (b : ℕ → ℕ → Bool) : Type 0 where
   pub alone : (k : ℕ) → b k k ≡ false
   pub either : (k m : ℕ) → (k ≡ m → ⊥) → b k m ≡ false → b m k ≡ true
   pub onward : (i j k : ℕ) → b i j ≡ true → b j k ≡ true → b i k ≡ true
 
--- how many of the first n come before m
+-- how many of the first n members come before m
 place : (ℕ → ℕ → Bool) → ℕ → ℕ → ℕ
 place b n m = countBelow n (λ (k : ℕ). b k m)
 
@@ -55,15 +56,15 @@ module _ (b : ℕ → ℕ → Bool) (o : Ranking b) where
   unfolding place countBelow
   place-next n m = refl
 
-  -- who comes before the new member keeps its place
+  -- a member that does not come after the new one keeps its place
   place-kept : (n m : ℕ) → b n m ≡ false → place b (suc n) m ≡ place b n m
   place-kept n m h = place-next n m ∙ rw h
 
-  -- who comes after it has one more before it
+  -- a member that comes after the new one has one more before it
   place-moved : (n m : ℕ) → b n m ≡ true → place b (suc n) m ≡ place b n m + 1
   place-moved n m h = place-next n m ∙ rw h
 
-  -- with the new member n behind L, who has a place below L is as before
+  -- If the new member n has a place from L on, the same members have a place below L as before.
   behind : (n L m : ℕ) → L ≤ place b n n → m < n → ltb (place b (suc n) m) L ≡ ltb (place b n m) L
   behind n L m h l = by (b m n) refl
     where
@@ -75,7 +76,7 @@ module _ (b : ℕ → ℕ → Bool) (o : Ranking b) where
           let i = place-most n n m f in
           ltb-same (place b (suc n) m) L (place b n m) L (λ x. omega arith) (λ x. absurd (omega arith))
 
-  -- with the new member n among those below L, one less of the others is
+  -- If the new member n has a place below L, the others below L are those that were below L − 1.
   among : (n L m : ℕ) → place b n n < L → m < n → ltb (place b (suc n) m) L ≡ ltb (place b n m) (L - 1)
   among n L m h l = by (b m n) refl
     where
@@ -88,11 +89,11 @@ module _ (b : ℕ → ℕ → Bool) (o : Ranking b) where
           let g = place-moved n m (o .either m n (λ z. omega arith) e) in
           ltb-same (place b (suc n) m) L (place b n m) (L - 1) (λ x. omega arith) (λ x. omega arith)
 
-  -- of n members, how many have a place below L among the first k
+  -- how many of n members have a place below L among the first k
   abbrev placed : ℕ → ℕ → ℕ → ℕ
   placed n k L = countBelow n (λ (m : ℕ). ltb (place b k m) L)
 
-  -- as many of n members have a place below L as L says
+  -- of n members, exactly L have a place below L
   places : (n L : ℕ) → L ≤ n → placed n n L ≡ L
   unfolding countBelow
   places zero L h = omega arith
@@ -113,11 +114,11 @@ module _ (b : ℕ → ℕ → Bool) (o : Ranking b) where
           count-same n (λ (m : ℕ). ltb (place b (suc n) m) L) (λ (m : ℕ). ltb (place b n m) L) (λ m k. behind n L m l k)
           ∙ ih L (omega arith)
 
--- who comes before whom, in words: by the larger remainder, or of two alike by the lower number
+-- k comes before m: it has the larger remainder, or the same remainder and the lower number
 abbrev pub Ahead : (ℕ → ℕ) → ℕ → ℕ → Type 0
 Ahead r k m = (r m < r k) ⊎ ((r k ≡ r m) × (k < m))
 
--- the test says so
+-- where the test holds, k comes before m
 pub ahead : (r : ℕ → ℕ) (k m : ℕ) → comesBefore r k m ≡ true → Ahead r k m
 unfolding comesBefore
 ahead r k m = by (ltb (r m) (r k)) (ltb (r k) (r m)) refl refl
@@ -129,7 +130,7 @@ ahead r k m = by (ltb (r m) (r k)) (ltb (r k) (r m)) refl refl
     by false false e f h =
         let x = ltb-false (r m) (r k) e in let y = ltb-false (r k) (r m) f in inr (omega arith, ltb-true k m h)
 
--- and says so wherever it is so
+-- where k comes before m, the test holds
 pub comes-first : (r : ℕ → ℕ) (k m : ℕ) → Ahead r k m → comesBefore r k m ≡ true
 unfolding comesBefore
 comes-first r k m w =
@@ -143,7 +144,7 @@ not-true : (t : Bool) → (t ≡ true → ⊥) → t ≡ false
 not-true true h = absurd (h refl)
 not-true false h = refl
 
--- the order for a cent is a strict order in which of two members one comes before the other
+-- the order for a cent is a strict order in which one of any two members comes before the other
 pub comes-before-ranks : (r : ℕ → ℕ) → Ranking (comesBefore r)
 comes-before-ranks r = record {
   alone = λ k. not-true (comesBefore r k k) (λ e. ⊎-elim (λ l. omega arith) (λ l. omega arith) (ahead r k k e));
@@ -172,17 +173,17 @@ comes-before-ranks r = record {
         (λ (x : (r i ≡ r j) × (i < j)). ⊎-elim (λ y. inl (omega arith)) (λ y. inr (omega arith, omega arith)) w)
         v
 
--- as many of the 32 members have a rank below L as L says
+-- of the 32 members, exactly L have a rank below L
 pub ranks-below : (r : ℕ → ℕ) (L : ℕ) → L ≤ 32 → countBelow 32 (λ (m : ℕ). ltb (rank r m) L) ≡ L
 unfolding rank place
 ranks-below r L h = places (comesBefore r) (comes-before-ranks r) 32 L h
 
--- who comes before another has the lower rank
+-- a member that comes before another has the lower rank
 pub rank-lower : (r : ℕ → ℕ) (k m : ℕ) → k < 32 → comesBefore r k m ≡ true → rank r k < rank r m
 unfolding rank place
 rank-lower r k m l h = place-less (comesBefore r) (comes-before-ranks r) 32 k m l h
 
--- and who has the lower rank comes before the other
+-- a member with the lower rank comes before the other
 pub rank-first : (r : ℕ → ℕ) (k m : ℕ) → m < 32 → rank r k < rank r m → comesBefore r k m ≡ true
 rank-first r k m l h = by (comesBefore r k m) refl
   where
@@ -193,7 +194,7 @@ rank-first r k m l h = by (comesBefore r k m) refl
         let g = rank-lower r m k l f in
         absurd (omega arith)
 
--- a rank goes by the remainders of the 32 members alone
+-- a rank depends on the remainders of the 32 members alone
 pub rank-same : (r s : ℕ → ℕ) → ((k : ℕ) → k < 32 → r k ≡ s k) → (m : ℕ) → m < 32 → rank r m ≡ rank s m
 unfolding rank comesBefore
 rank-same r s h m l =

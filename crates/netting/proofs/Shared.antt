@@ -1,5 +1,5 @@
--- The shares of a month: they add up to what was collected; each is the claim's floor or one cent more, and at most the
--- claim; and a cent more goes by the order of the remainders.
+-- Laws on the shares of a month. They add up to what was collected. Each is the claim's share rounded down or one cent
+-- more, and at most the claim. The cents go by the order of the remainders. A "floor" is a share rounded down.
 use Prim.Native.Nat.{ℕ, zero, suc, _+_, _*_, _≤_, _<_}
 use native.Mathlib.Nat.{add-mul, mul-comm, mul-zero, mul-le-mul-right, le-of-mul-le-mul-right, lt-of-mul-lt-mul-right}
 use native.Mathlib.Nat.{mod-lt, div-add-mod', zero-div, zero-mod}
@@ -21,7 +21,7 @@ use Rattle.basics.proofs.Counts.{count-within, count-most, sum-same, sum-ones, 
 use Rattle.basics.proofs.Counts.{sum-listed}
 use Rattle.netting.proofs.Ranks.{comes-first, ranks-below, rank-first}
 
--- what a member gets stands at its place
+-- the list of shares has at each member's place what that member gets
 pub share-at : (c : ℕ) (gs : List ℕ) (m : ℕ) → m < 32 → getD (shares c gs) m 0 ≡ share c gs m
 unfolding shares
 share-at c gs m l = table-at 32 (share c gs) m 0 l
@@ -34,7 +34,7 @@ share-claimed : (c : ℕ) (gs : List ℕ) (m : ℕ) → 0 < getD gs m 0 → shar
 unfolding share
 share-claimed c gs m h = rw (lt-ltb 0 (getD gs m 0) h)
 
--- who has no claim gets nothing
+-- a member without a claim gets nothing
 pub shares-no-claim : (c : ℕ) (gs : List ℕ) (m : ℕ) → m < 32 → getD gs m 0 ≡ 0 → getD (shares c gs) m 0 ≡ 0
 shares-no-claim c gs m l h = share-at c gs m l ∙ share-none c gs m h
 
@@ -46,17 +46,17 @@ unfolding tableFrom
 zeros zero f k h = refl
 zeros (suc n) f k h = rw (h k, zeros n f (suc k) h)
 
--- where nothing is claimed all get 0
+-- where nothing is claimed, all get 0
 pub shares-none : (c : ℕ) (gs : List ℕ) → sum gs ≡ 0 → shares c gs ≡ replicate 32 0
 unfolding shares
 shares-none c gs h = zeros 32 (share c gs) 0 (λ m. share-none c gs m (unclaimed gs (omega arith) m))
 
--- a claim of nothing leaves nothing to round
+-- a claim of 0 has the floor 0 and the remainder 0
 floor-none : (c : ℕ) (gs : List ℕ) (m : ℕ) → getD gs m 0 ≡ 0 → (floorShare c gs m ≡ 0) × (remainder c gs m ≡ 0)
 unfolding floorShare remainder
 floor-none c gs m h = rw (h, mul-zero c) (zero-div (sum gs), zero-mod (sum gs))
 
--- none of the cents left, or one: by whether fewer members come before than there are cents
+-- A member gets one cent if fewer members come before it than there are cents left, and none if not.
 abbrev OneOrNone : ℕ → ℕ → ℕ → Type 0
 OneOrNone place left x = ((x ≡ 0) × (left ≤ place)) ⊎ ((x ≡ 1) × (place < left))
 
@@ -68,7 +68,7 @@ cent c gs m =
     (λ e. inr (refl, ltb-true (rank (remainder c gs) m) (centsLeft c gs) e))
     (λ e. inl (refl, ltb-false (rank (remainder c gs) m) (centsLeft c gs) e))
 
--- c cents on the claims gs of 32 members
+-- c cents are shared among the claims gs of 32 members
 module _ (c : ℕ) (gs : List ℕ) (members : length gs ≡ 32) where
   abbrev whole : ℕ
   whole = sum gs
@@ -76,7 +76,7 @@ module _ (c : ℕ) (gs : List ℕ) (members : length gs ≡ 32) where
   abbrev floors : ℕ
   floors = sum (table 32 (floorShare c gs))
 
-  -- the floors and the remainders are together all of the products
+  -- the floors, times the whole, and the remainders add up to all of the products
   parts : floors * whole + sum (table 32 (remainder c gs)) ≡ c * whole
   unfolding floorShare remainder
   parts =
@@ -86,7 +86,7 @@ module _ (c : ℕ) (gs : List ℕ) (members : length gs ≡ 32) where
   unfolding total
   no-floors h = ap sum (zeros 32 (floorShare c gs) 0 (λ m. floor-none c gs m (unclaimed gs h m) .0))
 
-  -- the floors take no more than c
+  -- the floors add up to at most c
   pub floors-most : floors ≤ c
   floors-most =
       ⊎-elim
@@ -94,12 +94,12 @@ module _ (c : ℕ) (gs : List ℕ) (members : length gs ≡ 32) where
       (λ (none : whole ≤ 0). omega (arith, no-floors none))
       (below-or-not 0 whole)
 
-  -- the floors and the cents left are all of c
+  -- the floors and the cents left add up to c
   all-of-it : floors + centsLeft c gs ≡ c
   unfolding centsLeft
   all-of-it = omega (arith, floors-most)
 
-  -- the remainders add up to the whole, as many times as there are cents left
+  -- the remainders add up to the whole times the cents left
   remainders-are : sum (table 32 (remainder c gs)) ≡ centsLeft c gs * whole
   remainders-are =
       let p = parts in
@@ -110,7 +110,7 @@ module _ (c : ℕ) (gs : List ℕ) (members : length gs ≡ 32) where
   abbrev rounded : ℕ → Bool
   rounded k = ltb 0 (remainder c gs k)
 
-  -- at least as many members have a remainder as there are cents left
+  -- at least as many members have a remainder above 0 as there are cents left
   enough : 0 < whole → centsLeft c gs ≤ countBelow 32 rounded
   unfolding remainder
   enough some =
@@ -118,7 +118,7 @@ module _ (c : ℕ) (gs : List ℕ) (members : length gs ≡ 32) where
       let f = sum-counted 32 (remainder c gs) whole (λ k. let l = mod-lt (c * getD gs k 0) some in omega arith) in
       le-of-mul-le-mul-right {k = whole} (omega arith) some
 
-  -- a member with no remainder comes after all that have one
+  -- a member without a remainder comes after all members that have one
   last : (m : ℕ) → remainder c gs m ≤ 0 → countBelow 32 rounded ≤ rank (remainder c gs) m
   unfolding rank
   last m h =
@@ -128,7 +128,7 @@ module _ (c : ℕ) (gs : List ℕ) (members : length gs ≡ 32) where
       first : (k : ℕ) → 0 < remainder c gs k → comesBefore (remainder c gs) k m ≡ true
       first k l = comes-first (remainder c gs) k m (inl (omega arith))
 
-  -- where no more is collected than is claimed
+  -- from here on no more is collected than is claimed
   module _ (covered : c ≤ sum gs) where
     left-of-none : whole ≤ 0 → centsLeft c gs ≡ 0
     left-of-none h = omega (arith, all-of-it)
@@ -140,7 +140,7 @@ module _ (c : ℕ) (gs : List ℕ) (members : length gs ≡ 32) where
         (λ (none : whole ≤ 0). omega (arith, left-of-none none))
         (below-or-not 0 whole)
 
-    -- who gets a cent more has a remainder
+    -- a member that gets one of the cents left has a remainder above 0
     winner : (m : ℕ) → rank (remainder c gs) m < centsLeft c gs → 0 < remainder c gs m
     winner m h = ⊎-elim claimed (λ (none : whole ≤ 0). absurd (omega (arith, left-of-none none))) (below-or-not 0 whole)
       where
@@ -155,7 +155,8 @@ module _ (c : ℕ) (gs : List ℕ) (members : length gs ≡ 32) where
     no-extra m h =
         ⊎-elim (λ w. w .0) (λ w. absurd (omega (arith, winner m (w .1), floor-none c gs m h .1))) (cent c gs m)
 
-    -- each member gets its floor and, by its rank, a cent: what the test of the claim leaves out is 0 anyway
+    -- Each member gets its floor and, by its rank, a cent. Where the definition gives 0 for want of a claim, both are 0
+    -- anyway.
     share-is : (m : ℕ) → share c gs m ≡ floorShare c gs m + extraCent c gs m
     share-is m =
         ⊎-elim
@@ -193,13 +194,13 @@ module _ (c : ℕ) (gs : List ℕ) (members : length gs ≡ 32) where
         let p = mul-le-mul-right {m = c} {n = whole} (getD gs m 0) covered in
         omega (arith, mul-comm whole (getD gs m 0))
 
-    -- a floor is at most the claim
+    -- a floor is at most its claim
     floor-within : (m : ℕ) → 0 < whole → floorShare c gs m ≤ getD gs m 0
     unfolding floorShare
     floor-within m some =
         le-of-mul-le-mul-right {k = whole} (omega (arith, div-add-mod' (c * getD gs m 0) whole, product-most m)) some
 
-    -- and less than the claim where there is a remainder
+    -- a floor is below its claim where there is a remainder
     floor-less : (m : ℕ) → 0 < remainder c gs m → floorShare c gs m < getD gs m 0
     unfolding floorShare remainder
     floor-less m some =
@@ -211,7 +212,7 @@ module _ (c : ℕ) (gs : List ℕ) (members : length gs ≡ 32) where
         let s : 0 < whole = omega (arith, one-most gs m) in
         ⊎-elim (λ w. omega (arith, floor-within m s)) (λ w. omega (arith, floor-less m (winner m (w .1)))) (cent c gs m)
 
-    -- and at most its claim
+    -- a share is at most its claim
     pub shares-most : (m : ℕ) → m < 32 → getD (shares c gs) m 0 ≤ getD gs m 0
     shares-most m l =
         let e = share-at c gs m l in
@@ -226,7 +227,8 @@ module _ (c : ℕ) (gs : List ℕ) (members : length gs ≡ 32) where
     missed : (m : ℕ) → extraCent c gs m ≡ 0 → centsLeft c gs ≤ rank (remainder c gs) m
     missed m e = ⊎-elim (λ w. w .1) (λ w. absurd (omega arith)) (cent c gs m)
 
-    -- a cent more goes to the larger remainder, of two alike to the lower member: who got one comes before who did not
+    -- The cents go to the larger remainders, and of two alike to the lower member: a member that got one comes before a
+    -- member that did not.
     pub shares-ranked : (m k : ℕ) → m < 32 → k < 32 → getD (shares c gs) m 0 ≡ floorShare c gs m + 1 →
         getD (shares c gs) k 0 ≡ floorShare c gs k → comesBefore (remainder c gs) m k ≡ true
     shares-ranked m k lm lk em ek =

@@ -1,4 +1,5 @@
--- Signed accounts in 64 bits: how far from zero sums and differences are, and that the machine computes the true ones.
+-- Laws on signed accounts in 64 bits: how far from zero sums and differences are, and that the machine computes them
+-- exactly.
 use Prim.Native.Nat.{ℕ, zero, suc, _+_, _-_, _^_, _≤_, _<_}
 use native.Mathlib.Nat.{zero-add}
 use native.Mathlib.Omega.{arith}
@@ -25,14 +26,14 @@ subℕ-most a b = by (ltb a b) refl
     by true e = let h = ltb-true a b e in omega arith
     by false e = let h = ltb-false a b e in omega arith
 
--- a sum is at most as far from zero as its two parts together
+-- a sum is no further from zero than its two parts are together
 pub sum-abs : (x y : ℤ) → natAbs (x +ℤ y) ≤ natAbs x + natAbs y
 sum-abs (pos a) (pos b) = omega arith
 sum-abs (pos a) (negsuc b) = subℕ-most a (suc b)
 sum-abs (negsuc a) (pos b) = omega (arith, subℕ-most b (suc a))
 sum-abs (negsuc a) (negsuc b) = omega arith
 
--- what is below zero is as far from it as what is above
+-- −n is as far from zero as n
 pub negative-abs : (n : ℕ) → natAbs (negℤ (pos n)) ≡ n
 negative-abs zero = refl
 negative-abs (suc n) = refl
@@ -66,13 +67,13 @@ not-below : (z : ℤ) → ltZ z (pos 0) ≡ false → 0 ≡ owed z
 not-below (pos n) e = refl
 not-below (negsuc n) e = absurd (never (sym e))
 
--- an account that is read from its bits
+-- an account as it is read back from its bits
 abbrev pub read : ℤ → ℤ
 read z = toZ w64 (ofZ w64 z)
 
--- what the machine computes of one account
+-- what the machine computes from one account
 module _ (z : ℤ) (small : natAbs z ≤ mostAccount) where
-  -- it is read from its bits as it is
+  -- the account is read back unchanged
   pub read-is : read z ≡ z
   read-is = toZ-ofZ (fits z (omega arith))
 
@@ -80,15 +81,15 @@ module _ (z : ℤ) (small : natAbs z ≤ mostAccount) where
     positive : T (nonNeg z) × (natAbs z ≡ claim z)
     positive = above z (rw read-is at e)
 
-    -- above zero it fits an unsigned number
+    -- an account above zero fits an unsigned number
     pub claim-fits : T (nonNeg (read z)) × Fits w64 (natAbs (read z))
     claim-fits = rw read-is (positive .0, record { fits = omega arith })
 
-    -- and that number is its claim
+    -- this number is its claim
     pub claim-is : natAbs (read z) ≡ claim z
     claim-is = rw read-is (positive .1)
 
-  -- not above zero it claims nothing
+  -- an account that is not above zero claims nothing
   pub claim-none : ltZ (pos 0) (read z) ≡ false → 0 ≡ claim z
   claim-none e = not-above z (rw read-is at e)
 
@@ -96,26 +97,26 @@ module _ (z : ℤ) (small : natAbs z ≤ mostAccount) where
     size : pos 0 -ℤ read z ≡ pos (owed z)
     size = rw read-is (below z (rw read-is at e))
 
-    -- below zero, 0 less the account fits
+    -- for an account below zero, 0 less the account fits a signed number
     pub size-fits : SFits w64 (pos 0 -ℤ read z)
     size-fits = rw size (fits (pos (owed z)) (omega (arith, owed-most z)))
 
     back : read (pos 0 -ℤ read z) ≡ pos (owed z)
     back = toZ-ofZ size-fits ∙ size
 
-    -- also an unsigned number
+    -- it also fits an unsigned number
     pub owed-fits : T (nonNeg (read (pos 0 -ℤ read z))) × Fits w64 (natAbs (read (pos 0 -ℤ read z)))
     owed-fits = rw back (tt, record { fits = omega (arith, owed-most z) })
 
-    -- and that number is what it owes
+    -- this number is what the account owes
     pub owed-is : natAbs (read (pos 0 -ℤ read z)) ≡ owed z
     owed-is = rw back
 
-  -- not below zero it owes nothing
+  -- an account that is not below zero owes nothing
   pub owed-none : ltZ (read z) (pos 0) ≡ false → 0 ≡ owed z
   owed-none e = not-below z (rw read-is at e)
 
--- what the machine computes of an account z and n cents
+-- what the machine computes from an account z and n cents
 module _ (z : ℤ) (n : ℕ) (small : natAbs z + n < 2 ^ 63) where
   operands : (read z ≡ z) × (toZ w64 n ≡ pos n)
   operands = (toZ-ofZ (fits z (omega arith)), toZ-pos w64 (omega arith))
@@ -124,7 +125,7 @@ module _ (z : ℤ) (n : ℕ) (small : natAbs z + n < 2 ^ 63) where
   pub plus-fits : SFits w64 (read z +ℤ toZ w64 n)
   plus-fits = rw (operands .0, operands .1) (fits (z +ℤ pos n) (omega (arith, sum-abs z (pos n))))
 
-  -- and is the true one
+  -- the machine computes the exact sum
   pub plus-is : read (read z +ℤ toZ w64 n) ≡ z +ℤ pos n
   plus-is = toZ-ofZ plus-fits ∙ rw (operands .0, operands .1)
 
@@ -133,6 +134,6 @@ module _ (z : ℤ) (n : ℕ) (small : natAbs z + n < 2 ^ 63) where
   minus-fits = rw (operands .0, operands .1)
       (fits (z -ℤ pos n) (omega (arith, sum-abs z (negℤ (pos n)), negative-abs n)))
 
-  -- and is the true one
+  -- the machine computes the exact difference
   pub minus-is : read (read z -ℤ toZ w64 n) ≡ z -ℤ pos n
   minus-is = toZ-ofZ minus-fits ∙ rw (operands .0, operands .1)

@@ -1,5 +1,5 @@
--- The steps of a month: the portions that are worked out for each member are those of the definition, nothing in them
--- overflows, and a member's share of them is its share.
+-- Laws on the steps of a month. The portions that the code computes are those of the definition, nothing in them
+-- overflows, and a member's share of them is its share by the rules.
 use Prim.Native.Nat.{ℕ, _-_, _*_, _^_, _≤_, _<_}
 use native.Mathlib.Omega.{arith}
 use mathlib.Core.List.{List}
@@ -30,44 +30,44 @@ cent-most p m =
     pick-case (λ (n : ℕ). n ≤ 1) (ltb (rank (byMember (p .remainders)) m) (p .left)) 1 0
     (λ e. omega arith) (λ e. omega arith)
 
--- a member gets one if fewer come before it than there are cents left
+-- a member gets one if fewer members come before it than there are cents left
 pub cent-won : (p : Portions) (m : ℕ) → rank (byMember (p .remainders)) m < p .left → 1 ≡ centOf p m
 unfolding centOf
 cent-won p m h = rw (lt-ltb (rank (byMember (p .remainders)) m) (p .left) h)
 
--- and none if not
+-- it gets none if not
 pub cent-missed : (p : Portions) (m : ℕ) → p .left ≤ rank (byMember (p .remainders)) m → 0 ≡ centOf p m
 unfolding centOf
 cent-missed p m h = rw (le-ltb (rank (byMember (p .remainders)) m) (p .left) h)
 
--- what is divided for a member are its floor and its remainder
+-- the division for a member gives its floor and its remainder
 pub portion-is : (c : ℕ) (gs : List ℕ) (m whole : ℕ) (p : Divided) →
     whole ≡ sum gs → p ≡ divided (c * getD gs m 0) whole →
     (p .quotient ≡ floorShare c gs m) × (p .remainder ≡ remainder c gs m)
 unfolding floorShare remainder
 portion-is c gs m whole p w e = rw (e, w) (refl, refl)
 
--- the sum collected, with its floors for all members
+-- the floors of all members for the sum collected
 module _ (c : ℕ) (gs fs : List ℕ) (claimants : length gs ≡ 32) (members : length fs ≡ 32)
     (each : (m : ℕ) → m < 32 → getD fs m 0 ≡ floorShare c gs m) where
   floors-are : fs ≡ table 32 (floorShare c gs)
   floors-are = is-table 32 (floorShare c gs) fs 0 members each
 
-  -- the floors take no more than is collected
+  -- the floors add up to no more than is collected
   pub floors-within : sum fs ≤ c
   floors-within = rw floors-are (floors-most c gs claimants)
 
-  -- with the remainders and what is left they are the portions
+  -- the floors, the remainders and the cents left are the portions
   pub portions-are : (rs : List ℕ) (left : ℕ) → length rs ≡ 32 → ((m : ℕ) → m < 32 → getD rs m 0 ≡ remainder c gs m) →
       left ≡ c - sum fs → record { floors = fs; remainders = rs; left = left } ≡ portions c gs
   unfolding portions centsLeft
   portions-are rs left h r l = rw (l, is-table 32 (remainder c gs) rs 0 h r, floors-are)
 
--- what the netting asks is what a division of the claims asks
+-- where the requirement of the netting holds, that of the division does
 pub dividable : (a : List ℤ) (c : ℕ) (gs : List ℕ) → length a ≡ 32 → Shareable a c → gs ≡ claims a → Dividable c gs
 dividable a c gs members s e = rw e (record { covered = s .covered; small = claims-small a members (s .bounded) })
 
--- no floor is large
+-- every floor is at most 2 ^ 48
 pub floor-small : (c : ℕ) (gs : List ℕ) (p : Portions) → length gs ≡ 32 → Dividable c gs → p ≡ portions c gs →
     (m : ℕ) → getD (p .floors) m 0 ≤ 2 ^ 48
 unfolding portions
@@ -86,7 +86,7 @@ module _ (c : ℕ) (gs : List ℕ) where
   unfolding portions
   floor-is m l = table-at 32 (floorShare c gs) m 0 l
 
-  -- a member's share of the portions is its share
+  -- a member's share of the portions is its share by the rules
   pub share-made : (m : ℕ) → m < 32 → shareOf gs (portions c gs) m ≡ share c gs m
   unfolding shareOf share
   share-made m l = rw (cent-is m l, floor-is m l)

@@ -1,4 +1,4 @@
--- A transfer between two accounts: what it does to each of them, and that what they add up to stays.
+-- Laws on a transfer between two accounts: what it does to each account, and that the balance stays the same.
 use Prim.Native.Nat.{ℕ, zero, suc, _+_, _^_, _≤_, _<_}
 use native.Mathlib.Omega.{arith}
 use mathlib.Core.Bool.{Bool, true, false}
@@ -19,7 +19,7 @@ use Rattle.netting.proofs.Signed.{read, sum-abs, negative-abs, plus-fit
 abbrev pub accountOf : List ℤ → ℕ → ℤ
 accountOf accounts m = getD accounts m (pos 0)
 
--- the accounts with x added to that of member m: a debit adds what is below zero, a credit what is above
+-- the accounts with x added to that of member m; x is negative for a debit and positive for a credit
 abbrev moved : ℕ → ℤ → List ℤ → List ℤ
 moved m x accounts = set accounts m (accountOf accounts m +ℤ x)
 
@@ -41,7 +41,7 @@ moved-abs m x a l k = by (eqb k m) refl
     by true e = rw (eqb-true k m e, moved-own m x a l) (sum-abs (accountOf a m) x)
     by false e = rw (moved-other m x a k (eqb-false k m e)) (omega arith)
 
--- the balance moves by x
+-- the balance changes by x
 moved-balance : (m : ℕ) (x : ℤ) (a : List ℤ) → m < length a → balance (moved m x a) ≡ balance a +ℤ x
 unfolding balance
 moved-balance m x [] h = absurd (omega arith)
@@ -50,7 +50,7 @@ moved-balance zero x (z ∷ a) h =
 moved-balance (suc m) x (z ∷ a) h =
     ap (λ (y : ℤ). z +ℤ y) (moved-balance m x a (omega arith)) ∙ sym (+ℤ-assoc z (balance a) x)
 
--- n cents from the debtor d to the creditor c
+-- n cents pass from the debtor d to the creditor c
 module _ (d c n : ℕ) (accounts : List ℤ) where
   abbrev less : List ℤ
   less = moved d (negℤ (pos n)) accounts
@@ -63,7 +63,7 @@ module _ (d c n : ℕ) (accounts : List ℤ) where
   unfolding transferred credited debited
   transferred-length = moved-length c (pos n) less ∙ moved-length d (negℤ (pos n)) accounts
 
-  -- who is neither the debtor nor the creditor has what it had
+  -- a member that is neither the debtor nor the creditor keeps its account
   pub transferred-other : (m : ℕ) → (m ≡ d → ⊥) → (m ≡ c → ⊥) → accountOf after m ≡ accountOf accounts m
   unfolding transferred credited debited
   transferred-other m x y = moved-other c (pos n) less m y ∙ moved-other d (negℤ (pos n)) accounts m x
@@ -81,14 +81,14 @@ module _ (d c n : ℕ) (accounts : List ℤ) where
     unfolding transferred credited debited
     transferred-debtor apart = moved-other c (pos n) less d apart ∙ moved-own d (negℤ (pos n)) accounts there
 
-    -- from a member to itself nothing passes
+    -- a transfer from a member to itself changes nothing
     pub transferred-same : d ≡ c → after ≡ accounts
     unfolding transferred credited debited
     transferred-same e =
         rw (← e, moved-own d (negℤ (pos n)) accounts there, set-set)
         (rw (-ℤ-+ℤ-cancel (accountOf accounts d) (pos n), set-getD))
 
-    -- what the accounts add up to stays
+    -- the balance stays the same
     pub transferred-balance : c < length accounts → balance after ≡ balance accounts
     unfolding transferred credited debited
     transferred-balance l =
@@ -114,7 +114,7 @@ module _ (d c n : ℕ) (accounts : List ℤ) where
         by true e = rw (transferred-same (eqb-true d c e)) (omega arith)
         by false e = apart-abs l (eqb-false d c e) m (eqb m c) refl
 
--- what the machine computes for such a transfer
+-- what the machine computes in such a transfer
 module _ (d c n : ℕ) (accounts : List ℤ) (t : Transferable d c n accounts) (members : length accounts ≡ 32) where
   abbrev debit : ℤ
   debit = read (read (accountOf accounts d) -ℤ toZ w64 n)
@@ -128,21 +128,21 @@ module _ (d c n : ℕ) (accounts : List ℤ) (t : Transferable d c n accounts) (
   due-small : natAbs due + n < 2 ^ 63
   due-small = rw debit-is (omega (arith, less-abs d c n accounts (omega arith) c, t .bounded c))
 
-  -- the debtor's new account fits
+  -- the new account of the debtor fits
   pub debit-fits : SFits w64 (read (accountOf accounts d) -ℤ toZ w64 n)
   debit-fits = minus-fits (accountOf accounts d) n (omega (arith, t .bounded d))
 
-  -- and so does the creditor's
+  -- the new account of the creditor fits
   pub credit-fits : SFits w64 (read due +ℤ toZ w64 n)
   credit-fits = plus-fits due n due-small
 
-  -- and with both stored the accounts are those of the definition
+  -- with both stored, the accounts are those of the definition
   pub transfer-is : set (set accounts d debit) c (read (read due +ℤ toZ w64 n)) ≡ transferred d c n accounts
   unfolding transferred credited debited
   transfer-is =
       ap (λ (z : ℤ). set (set accounts d debit) c z) (plus-is due n due-small) ∙ ap (moved c (pos n)) debit-is
 
--- what a transfer does to an account is what its cents credit to it
+-- how a transfer changes each account: it adds the cents to the buyer's and takes them from the seller's
 pub transferred-credit : (seller buyer cents : ℕ) (accounts : List ℤ) → seller < length accounts → buyer < length accounts → (seller ≡ buyer → ⊥) → (m : ℕ) →
     getD (transferred seller buyer cents accounts) m (pos 0) ≡ getD accounts m (pos 0) +ℤ (pick (eqb buyer m) (pos cents) (pos 0) -ℤ pick (eqb seller m) (pos cents) (pos 0))
 transferred-credit seller buyer cents accounts s b apart m = by (eqb seller m) (eqb buyer m) refl refl

@@ -1,5 +1,6 @@
--- Month, step by step: all floors, all remainders and the cents left, as they are worked out before any share; and what
--- one member gets of them. The shares themselves are those of Shares.
+-- The shares of a month as the code computes them. It first computes for each member the share rounded down and the
+-- remainder, and the cents that are left. From these it computes what each member gets. The module Shares has the
+-- shares as the rules state them.
 use Prim.Native.Nat.{ℕ, _+_, _^_, _≤_}
 use mathlib.Core.List.{List}
 use lib.Dec.{ltb}
@@ -9,16 +10,17 @@ use Rattle.basics.specs.Lists.{sum, table}
 use Rattle.netting.specs.declared.Portions.{Portions}
 use Rattle.netting.specs.Shares.{floorShare, remainder, centsLeft, rank}
 
--- what a division of the sum collected asks: no more is collected than is claimed, and the claims are not too large
+-- what the division of the sum collected requires: no more is collected than is claimed, and the claims are not too
+-- large
 pub record Dividable (c : ℕ) (gs : List ℕ) : Type 0 where
   pub covered : c ≤ sum gs
   pub small : sum gs ≤ 2 ^ 48
 
--- what a list holds for each member
+-- the number that a list holds for each member
 abbrev pub byMember : List ℕ → ℕ → ℕ
 byMember xs m = getD xs m 0
 
--- the floors, the remainders and the cents left of c for the claims gs
+-- the shares rounded down, the remainders and the cents left, for the sum c and the claims gs
 unfoldable pub portions : ℕ → List ℕ → Portions
 portions c gs = record {
   floors = table 32 (floorShare c gs);
@@ -26,10 +28,10 @@ portions c gs = record {
   left = centsLeft c gs;
 }
 
--- one of the cents left, if fewer members come before m than there are cents
+-- member m gets one of the cents left if fewer members come before it than there are cents
 unfoldable pub centOf : Portions → ℕ → ℕ
 centOf p m = pick (ltb (rank (byMember (p .remainders)) m) (p .left)) 1 0
 
--- what member m gets, by its claim
+-- what member m gets; a member without a claim gets 0
 unfoldable pub shareOf : List ℕ → Portions → ℕ → ℕ
 shareOf gs p m = pick (ltb 0 (getD gs m 0)) (getD (p .floors) m 0 + centOf p m) 0

@@ -1,5 +1,5 @@
--- Month: what is collected, shared among the claims. Here c is the sum collected, gs the 32 claims in rising member
--- number, and their sum is the paper's G.
+-- How the sum collected in a month is shared among the claims. Here c is the sum collected, C in the rules. gs are the
+-- 32 claims in rising member number, and their sum is G in the rules.
 use Prim.Native.Nat.{ℕ, _+_, _-_, _*_, _/_, _%_}
 use mathlib.Core.Bool.{Bool, true, false}
 use mathlib.Core.List.{List}
@@ -8,34 +8,35 @@ use lib.ListN.{getD}
 use Rattle.basics.specs.Choice.{pick}
 use Rattle.basics.specs.Lists.{sum, table, countBelow}
 
--- 01, Month: claim g first gets C × g / G, rounded down
+-- M5, Month: claim g first gets C × g / G, rounded down
 unfoldable pub floorShare : ℕ → List ℕ → ℕ → ℕ
 floorShare c gs m = c * getD gs m 0 / sum gs
 
--- 01, Month: the remainder of C × g by G
+-- M6, Month: the remainder of C × g by G
 unfoldable pub remainder : ℕ → List ℕ → ℕ → ℕ
 remainder c gs m = c * getD gs m 0 % sum gs
 
--- 01, Month: the cents that are left of C
+-- M6, Month: the cents of C that are then left over
 unfoldable pub centsLeft : ℕ → List ℕ → ℕ
 centsLeft c gs = c - sum (table 32 (floorShare c gs))
 
--- 01, Month: member k comes before member m for a cent, by the larger remainder; of two alike, the lower number does
+-- M6, Month: whether member k comes before member m for a cent: the larger remainder comes first, and of two alike the
+-- lower member
 unfoldable pub comesBefore : (ℕ → ℕ) → ℕ → ℕ → Bool
 comesBefore r k m = pick (ltb (r m) (r k)) true (pick (ltb (r k) (r m)) false (ltb k m))
 
--- how many of the 32 members come before member m
+-- M6, Month: how many of the 32 members come before member m
 unfoldable pub rank : (ℕ → ℕ) → ℕ → ℕ
 rank r m = countBelow 32 (λ k. comesBefore r k m)
 
--- 01, Month: one of the cents left, if fewer members come before m than there are cents
+-- M6, Month: member m gets one of the cents left if fewer members come before it than there are cents
 unfoldable pub extraCent : ℕ → List ℕ → ℕ → ℕ
 extraCent c gs m = pick (ltb (rank (remainder c gs) m) (centsLeft c gs)) 1 0
 
--- 01, Month: what a creditor gets; who has no claim gets 0
+-- M7 and M8, Month: what member m gets; a member without a claim gets 0
 unfoldable pub share : ℕ → List ℕ → ℕ → ℕ
 share c gs m = pick (ltb 0 (getD gs m 0)) (floorShare c gs m + extraCent c gs m) 0
 
--- 01, Month: what each of the 32 members gets
+-- M5 to M8, Month: what each of the 32 members gets
 unfoldable pub shares : ℕ → List ℕ → List ℕ
 shares c gs = table 32 (share c gs)

@@ -1,5 +1,5 @@
-// The members' accounts: a penalty that passes between two of them, what each claims and owes, and the month's
-// shares of what was collected.
+// The members' accounts: a penalty that passes from one to another, what each account claims and owes, and how the sum
+// collected in a month is shared.
 use amounts::Divided;
 ghost use mathlib.Core.Path.{_≡_};
 ghost use Prim.Native.Nat.{_*_, _≤_, _<_, _^_};
@@ -12,14 +12,14 @@ ghost use Rattle.netting.specs.Accounts.{mostAccount, Bounded, Transfera
 ghost use Rattle.netting.specs.Shares.{comesBefore, rank, shares};
 ghost use Rattle.netting.specs.Portions.{Dividable, byMember, portions, centOf, shareOf};
 
-// What is worked out before any share: of each member its share rounded down and the remainder, and the cents left.
+// What the code computes before any share: each member's share rounded down, each remainder, and the cents left.
 struct Portions {
     floors: [u64; 32],
     remainders: [u64; 32],
     left: u64,
 }
 
-// What an account claims.
+// Returns what an account claims.
 pub fn claim_of(account: i64) -> u64
     requires { ⌜ natAbs account ≤ mostAccount ⌝ }
     ensures { λ r. ⌜ r ≡ claim account ⌝ }
@@ -27,7 +27,7 @@ pub fn claim_of(account: i64) -> u64
     if 0 < account { account as u64 } else { 0 }
 }
 
-// What an account owes.
+// Returns what an account owes.
 pub fn owed_by(account: i64) -> u64
     requires { ⌜ natAbs account ≤ mostAccount ⌝ }
     ensures { λ r. ⌜ r ≡ owed account ⌝ }
@@ -40,8 +40,8 @@ pub fn owed_by(account: i64) -> u64
     }
 }
 
-// Cents pass from the account of one member to that of another. The credit is read after the debit is stored, so that
-// a transfer from a member to itself would change nothing.
+// Moves cents from the account of one member to that of another. It reads the creditor's account after it has stored
+// the debit, so a transfer from a member to itself would change nothing.
 pub fn transfer(accounts: [i64; 32], debtor: usize, creditor: usize, cents: u64) -> [i64; 32]
     requires { ⌜ Transferable debtor creditor cents accounts ⌝ }
     ensures { λ r. ⌜ r ≡ transferred debtor creditor cents accounts ⌝ }
@@ -54,7 +54,7 @@ pub fn transfer(accounts: [i64; 32], debtor: usize, creditor: usize, cents: u64)
     next
 }
 
-// The claims of all members.
+// Returns the claims of all members.
 fn claims_of(accounts: [i64; 32]) -> [u64; 32]
     requires { ⌜ Bounded accounts ⌝ }
     ensures { λ r. ⌜ r ≡ claims accounts ⌝ }
@@ -69,7 +69,7 @@ fn claims_of(accounts: [i64; 32]) -> [u64; 32]
     claims
 }
 
-// What the amounts of all members add up to.
+// Returns the sum of the amounts of all members.
 pub fn sum_of(amounts: [u64; 32]) -> u64
     requires { ⌜ sum amounts < 2 ^ 64 ⌝ }
     ensures { λ r. ⌜ r ≡ sum amounts ⌝ }
@@ -83,7 +83,8 @@ pub fn sum_of(amounts: [u64; 32]) -> u64
     so_far
 }
 
-// The quotient and the remainder of one claim's part. No claim has none, also where nobody claims and the whole is 0.
+// Returns the quotient and the remainder for one claim. Both are 0 for a claim of 0; this covers the case that nobody
+// claims, where the whole is 0.
 fn portion_of(collected: u64, claim: u64, whole: u64) -> Divided
     requires { ⌜ (collected ≤ whole) × (claim ≤ whole) × (whole ≤ 2 ^ 48) ⌝ }
     ensures { λ r. ⌜ r ≡ divided (collected * claim) whole ⌝ }
@@ -97,7 +98,8 @@ fn portion_of(collected: u64, claim: u64, whole: u64) -> Divided
     amounts::product_divided(collected, claim, whole)
 }
 
-// The portions of all claims, and the cents that the rounding leaves: the floors never take more than was collected.
+// Returns the portions of all claims, and the cents that the rounding leaves. The shares rounded down never exceed what
+// was collected.
 fn portions_of(collected: u64, claims: [u64; 32]) -> Portions
     requires { ⌜ Dividable collected claims ⌝ }
     ensures { λ r. ⌜ r ≡ portions collected claims ⌝ }
@@ -120,7 +122,8 @@ fn portions_of(collected: u64, claims: [u64; 32]) -> Portions
     }
 }
 
-// Whether member k comes before member m for a cent: by the larger remainder, and of two alike by the lower number.
+// Says whether member k comes before member m for a cent: the larger remainder comes first, and of two alike the lower
+// member.
 fn comes_before(remainders: [u64; 32], k: usize, m: usize) -> bool
     requires { ⌜ (k < 32) × (m < 32) ⌝ }
     ensures { λ r. ⌜ r ≡ comesBefore (byMember remainders) k m ⌝ }
@@ -136,7 +139,7 @@ fn comes_before(remainders: [u64; 32], k: usize, m: usize) -> bool
     k < m
 }
 
-// How many members come before member m for a cent.
+// Returns how many members come before member m for a cent.
 fn rank_of(remainders: [u64; 32], m: usize) -> u64
     requires { ⌜ m < 32 ⌝ }
     ensures { λ r. ⌜ r ≡ rank (byMember remainders) m ⌝ }
@@ -152,7 +155,7 @@ fn rank_of(remainders: [u64; 32], m: usize) -> u64
     ahead
 }
 
-// One of the cents left, or none. Where no cent is left no rank is counted.
+// Returns 1 if member m gets one of the cents left, and 0 if not. Where no cent is left, it computes no rank.
 fn cent_of(portions: Portions, m: usize) -> u64
     requires { ⌜ m < 32 ⌝ }
     ensures { λ r. ⌜ r ≡ centOf portions m ⌝ }
@@ -165,7 +168,7 @@ fn cent_of(portions: Portions, m: usize) -> u64
     if rank_of(remainders, m) < left { 1 } else { 0 }
 }
 
-// What one member gets: nothing without a claim, else its floor and perhaps a cent.
+// Returns what one member gets: 0 without a claim, else its share rounded down and perhaps a cent.
 fn share_of(claims: [u64; 32], portions: Portions, m: usize) -> u64
     requires { ⌜ (m < 32) × (getD (portions .floors) m 0 ≤ 2 ^ 48) ⌝ }
     ensures { λ r. ⌜ r ≡ shareOf claims portions m ⌝ }
@@ -177,7 +180,7 @@ fn share_of(claims: [u64; 32], portions: Portions, m: usize) -> u64
     floors[m] + cent_of(portions, m)
 }
 
-// What each member gets of the sum collected in a month.
+// Returns what each member gets of the sum collected in a month.
 pub fn shares_of(accounts: [i64; 32], collected: u64) -> [u64; 32]
     requires { ⌜ Shareable accounts collected ⌝ }
     ensures { λ r. ⌜ r ≡ shares collected (claims accounts) ⌝ }

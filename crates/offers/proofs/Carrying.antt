@@ -1,4 +1,5 @@
--- The loop of insertion: an offer is carried along the rows to its place, and from there on each row moves by one.
+-- Laws on the loop of insertion. An offer is carried along the rows to its place, and from there on each row moves by
+-- one.
 use Prim.Native.Nat.{ℕ, suc, _+_, _≤_, _<_}
 use native.Mathlib.Omega.{arith}
 use native.Mathlib.Numerals.{add-one}
@@ -13,11 +14,12 @@ use Rattle.offers.specs.declared.Offer.{Offer}
 use Rattle.offers.specs.Rank.{overtakes, insertedBy, inserted}
 use Rattle.offers.specs.Held.{noOffer}
 
--- what is still to come behind the rows passed: x ahead of the rest once a row has moved, else x at its place in it
+-- What is to come behind the rows that were passed: once a row has moved, x and then the rest; before that, the rest
+-- with x inserted.
 unfoldable pub settled : Bool → Offer → List Offer → List Offer
 settled moved x ys = pick moved (x ∷ ys) (inserted x ys)
 
--- after k of n rows: the rows passed, with what is still to come, are the list with o at its place
+-- After k of n rows, the rows that were passed and what is to come are together the list with o at its place.
 pub record Carried (from : List Offer) (n : ℕ) (o : Offer) (rows : List Offer) (x : Offer) (m : Bool) (k : ℕ) : Type 0
   where
     pub within : k ≤ n
@@ -25,7 +27,7 @@ pub record Carried (from : List Offer) (n : ℕ) (o : Offer) (rows : List Offer)
     pub rest : drop k rows ≡ drop k from
     pub made : take k rows ++ settled m x (slice k n from) ≡ inserted o (take n from)
 
--- no row is passed
+-- before the first row
 pub carried-begins : (from : List Offer) (n : ℕ) (o : Offer) → length from ≡ 64 → Carried from n o from o false 0
 unfolding settled
 carried-begins from n o s = record { within = omega arith; size = s; rest = refl; made = refl }
@@ -74,7 +76,7 @@ module _ (from : List Offer) (n : ℕ) (o : Offer) (room : n < 64) (s : length f
             rw (add-one, take-suc-set rows k v l, append-assoc, step, ← slice-cons k n from noOffer h lf) (c .made);
       }
 
-  -- all rows are passed, and the place behind them takes x
+  -- after all rows, the place behind them takes x
   pub carried-ends : (rows : List Offer) (x : Offer) (m : Bool) (k : ℕ) → Carried from n o rows x m k → n ≤ k
       → set rows n x ≡ inserted o (take n from) ++ drop (n + 1) from
   carried-ends rows x m k c h =

@@ -1,4 +1,4 @@
--- What a buy-in takes from the offers: how much, from which, and in how many lines.
+-- Laws on what a buy-in takes from the offers: how much, from which, and in how many lines.
 use Prim.Native.Nat.{ℕ, suc, _+_, _-_, _≤_, _<_, min}
 use native.Mathlib.Omega.{arith}
 use mathlib.Core.Path.{_≡_, refl}
@@ -19,7 +19,7 @@ use Rattle.basics.proofs.Everywhere.{every-among}
 use Rattle.basics.proofs.TableSums.{sum-mono, sum-both, sum-none, sum-once, oneAt, one-at-most}
 
 -- ---- the offers for one obligation
--- each of them is for it
+-- each of these offers is for the obligation
 pub every-for : (i : ℕ) (xs : List Offer) → Every (λ x. x .obligation ≡ i) (offersFor i xs)
 unfolding offersFor
 every-for i [] = nobody
@@ -29,7 +29,7 @@ every-for i (x ∷ xs) =
     (λ e. also (eqb-true (x .obligation) i e) h)
     (λ e. h)
 
--- what holds of every offer holds of each of them
+-- what holds of every offer holds of each offer for the obligation
 pub for-keeps : {P : Offer → Type 0} (i : ℕ) {xs : List Offer} → Every P xs → Every P (offersFor i xs)
 unfolding offersFor
 for-keeps i nobody = nobody
@@ -37,7 +37,7 @@ for-keeps {P} i (also {x = x} {xs = xs} p ps) =
     let h = for-keeps i ps in
     pick-case (Every P) (eqb (x .obligation) i) (x ∷ offersFor i xs) (offersFor i xs) (λ e. also p h) (λ e. h)
 
--- they stand in the order of all offers
+-- the offers for the obligation stand in the order of all offers
 pub for-sorted : {R : Offer → Offer → Type 0} (i : ℕ) {xs : List Offer} → Sorted R xs → Sorted R (offersFor i xs)
 unfolding offersFor
 for-sorted i empty = empty
@@ -62,7 +62,7 @@ unfolding offersFor
 for-most i [] = omega arith
 for-most i (x ∷ xs) = omega (arith, for-length i x xs, for-most i xs, one-at-most (x .obligation) i)
 
--- over all obligations below n they are no more than all offers: an offer is for one obligation
+-- For all obligations below n together they are no more than all offers, since an offer is for one obligation.
 pub for-all-most : (n : ℕ) (xs : List Offer) → sum (table n (λ i. length (offersFor i xs))) ≤ length xs
 unfolding offersFor
 for-all-most n [] = omega (arith, sum-none 0 n)
@@ -121,7 +121,7 @@ by-most left (x ∷ xs) =
     let q : ℕ = min (x .quantity) left in
     omega (arith, length-with x q (givenBy (left - q) xs), by-most (left - q) xs)
 
--- a quantity above 0, and no more than was offered
+-- a given quantity is above 0 and no more than was offered
 pub record Within (g : Given) : Type 0 where
   pub some : 0 < g .quantity
   pub most : g .quantity ≤ g .offer .quantity
@@ -161,42 +161,42 @@ pub given-units : (i left : ℕ) (xs : List Offer) → units (given i left xs) �
 unfolding given
 given-units i left xs = by-units left (offersFor i xs)
 
--- each quantity is above 0, and at most its offer's
+-- each given quantity is above 0 and at most that of its offer
 pub given-within : (i left : ℕ) (xs : List Offer) → Every Within (given i left xs)
 unfolding given
 given-within i left xs = by-within left (offersFor i xs)
 
--- each is given by an offer for the obligation
+-- each quantity is given by an offer for the obligation
 pub given-for : (i left : ℕ) (xs : List Offer) → Every (λ g. g .offer .obligation ≡ i) (given i left xs)
 unfolding given
 given-for i left xs = by-keeps left (every-for i xs)
 
--- what holds of every offer holds of each that gives
+-- what holds of every offer holds of each offer that gives
 pub given-keeps : {P : Offer → Type 0} (i left : ℕ) {xs : List Offer} → Every P xs
     → Every (λ g. P (g .offer)) (given i left xs)
 unfolding given
 given-keeps i left h = by-keeps left (for-keeps i h)
 
--- each is given by one of the offers
+-- each quantity is given by one of the offers
 pub given-among : (i left : ℕ) (xs : List Offer) → Every (λ g. List·Memᴰ (g .offer) xs) (given i left xs)
 given-among i left xs = given-keeps i left (every-among xs)
 
--- they give in the order of all offers
+-- the offers give in the order of all offers
 pub given-sorted : {R : Offer → Offer → Type 0} (i left : ℕ) {xs : List Offer} → Sorted R xs
     → Sorted (λ g h. R (g .offer) (h .offer)) (given i left xs)
 unfolding given
 given-sorted i left s = by-sorted left (for-sorted i s)
 
--- no more give than offer for the obligation
+-- no more offers give than are made for the obligation
 pub given-for-most : (i left : ℕ) (xs : List Offer) → length (given i left xs) ≤ length (offersFor i xs)
 unfolding given
 given-for-most i left xs = by-most left (offersFor i xs)
 
--- no more give than there are offers
+-- no more offers give than there are
 pub given-most : (i left : ℕ) (xs : List Offer) → length (given i left xs) ≤ length xs
 given-most i left xs = omega (arith, given-for-most i left xs, for-most i xs)
 
--- over all obligations below n, whatever is left of each, no more give than there are offers
+-- for all obligations below n together, whatever is left of each, no more offers give than there are
 pub given-all-most : (n : ℕ) (left : ℕ → ℕ) (xs : List Offer)
     → sum (table n (λ i. length (given i (left i) xs))) ≤ length xs
 given-all-most n left xs =

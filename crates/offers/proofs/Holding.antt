@@ -1,4 +1,4 @@
--- The rows that hold the day's offers.
+-- Laws on the rows that hold the day's offers.
 use Prim.Native.Nat.{suc, _+_, _≤_, _<_}
 use native.Mathlib.Omega.{arith}
 use native.Mathlib.Numerals.{add-one}
@@ -27,7 +27,7 @@ module _ (s : Offers) (o : Offer) (room : s .count < 64) (size : length (s .rows
   inserted-length =
       length-inserted overtakes o (listed s) ∙ ap suc (listed-length s (omega arith)) ∙ sym (add-one (s .count))
 
-  -- one more offer stands in the rows as it stands in the list
+  -- with one more offer, the rows list the offers with it inserted
   pub listed-with : listed (withOffer s o) ≡ inserted o (listed s)
   listed-with = take-at (inserted o (listed s)) (drop (s .count + 1) (s .rows)) (s .count + 1) inserted-length
 
@@ -35,17 +35,17 @@ module _ (s : Offers) (o : Offer) (room : s .count < 64) (size : length (s .rows
   pub count-with : withOffer s o .count ≡ s .count + 1
   count-with = refl
 
-  -- the rows stay 64
+  -- there are still 64 rows
   pub size-with : length (withOffer s o .rows) ≡ 64
   size-with =
       length-append (inserted o (listed s)) (drop (s .count + 1) (s .rows))
       ∙ omega (arith, inserted-length, length-drop (s .count + 1) (s .rows))
 
-  -- rows that list the entered offers in their order do so with one more
+  -- If the rows list the entered offers in the order of the auction, they still do with one offer more.
   pub ranked-with : (entered : List Offer) → listed s ≡ ranked entered → listed (withOffer s o) ≡ ranked (o ∷ entered)
   unfolding rankedBy
   ranked-with entered e = listed-with ∙ ap (inserted o) e
 
-  -- what holds of the new offer and of every one listed holds of every one listed then
+  -- what holds of the new offer and of every listed one holds of all that are then listed
   pub every-with : {P : Offer → Type 0} → P o → Every P (listed s) → Every P (listed (withOffer s o))
   every-with {P} p h = rw listed-with (every-inserted overtakes o {P = P} p h)

@@ -1,4 +1,4 @@
--- Insertion by any test `over`, where `over x y` says that a later x overtakes an earlier y.
+-- Laws on insertion by any test `over`, where `over x y` says that a later x overtakes an earlier y.
 use Prim.Native.Nat.{suc}
 use mathlib.Core.Path.{_≡_, refl, ap, _∙_}
 use mathlib.Core.Bool.{Bool, true, false}
@@ -12,12 +12,12 @@ use Rattle.basics.proofs.Cases.{pick-case}
 use Rattle.offers.specs.Rank.{insertedBy, rankedBy}
 use Rattle.basics.proofs.Everywhere.{every-map, every-all}
 
--- x may stand ahead of y: y does not overtake it
+-- x may stand ahead of y if y does not overtake it
 abbrev pub Kept : {A : Type 0} → (A → A → Bool) → A → A → Type 0
 Kept over x y = over y x ≡ false
 
--- the two laws of an order: of any two, one may stand ahead of the other; and what may stand ahead of one may stand
--- ahead of all that this one may stand ahead of
+-- The two laws of an order. If x overtakes y, then x may stand ahead of y. If x may stand ahead of y and y ahead of z,
+-- then x may stand ahead of z.
 pub record Ranks {A : Type 0} (over : A → A → Bool) : Type 0 where
   pub total : (x y : A) → over x y ≡ true → Kept over x y
   pub transitive : (x y z : A) → Kept over x y → Kept over y z → Kept over x z
@@ -36,7 +36,7 @@ module _ {A : Type 0} (over : A → A → Bool) (o : A) where
       let h = every-inserted p qs in
       pick-case (Every P) (over o y) (o ∷ y ∷ ys) (y ∷ insertedBy over o ys) (λ e. also p (also q qs)) (λ e. also q h)
 
-  -- insertion makes a list one longer
+  -- insertion makes a list longer by one
   pub length-inserted : (xs : List A) → length (insertedBy over o xs) ≡ suc (length xs)
   unfolding insertedBy
   length-inserted [] = refl
@@ -78,7 +78,7 @@ module _ {A : Type 0} (over : A → A → Bool) where
   ranked-perm xs = ∣ ranked-permᴰ xs ∣₁
 
 module _ {A : Type 0} (over : A → A → Bool) (laws : Ranks over) where
-  -- a list in order stays in order
+  -- a list in order stays in order when one element is inserted
   pub inserted-keeps : (o : A) {xs : List A} → Sorted (Kept over) xs → Sorted (Kept over) (insertedBy over o xs)
   inserted-keeps o {xs} s =
       inserted-sorted over o (Kept over) (laws .transitive)
@@ -101,7 +101,7 @@ module _ {A B : Type 0} (g : A → B) (over : B → B → Bool) where
       by true h = refl
       by false h = ap (λ (l : List B). g y ∷ l) h
 
-  -- ranked by that test, the parts are the ranked parts
+  -- to rank elements by that test and take their parts is to rank the parts
   pub map-ranked : (xs : List A) → map g (rankedBy (λ x y. over (g x) (g y)) xs) ≡ rankedBy over (map g xs)
   unfolding rankedBy
   map-ranked [] = refl

@@ -1,4 +1,4 @@
--- The loop of a buy-in: one offer after another gives, and what it gives is put behind what the others gave.
+-- Laws on the loop of a buy-in. One offer after another gives, and what it gives is put behind what the others gave.
 use Prim.Native.Nat.{ℕ, suc, _+_, _-_, _≤_, _<_, min}
 use native.Mathlib.Omega.{arith}
 use native.Mathlib.Numerals.{add-one}
@@ -20,7 +20,7 @@ use Rattle.offers.specs.declared.BuyIn.{BuyIn}
 use Rattle.offers.specs.Held.{noOffer}
 use Rattle.offers.specs.BuyIn.{offersFor, withGiven, givenBy, given, nothingGiven, boughtWith}
 
--- the quantity that one offer gives to obligation i, of which some is left
+-- the quantity that one offer gives to obligation i, of which some quantity is left
 abbrev pub quantityFrom : Offer → ℕ → ℕ → ℕ
 quantityFrom x i left = pick (eqb (x .obligation) i) (min (x .quantity) left) 0
 
@@ -32,8 +32,8 @@ gives-within x i left q e =
     (λ z. omega arith)
     (λ z. omega arith))
 
--- after k of n offers: what they gave so far fills the first places, and with what the others will give it is what all
--- of them give
+-- After k of n offers, what they gave fills the first places. With what the others will give, it is what all offers
+-- give.
 pub record Passed (i left : ℕ) (rows : List Offer) (n : ℕ) (bought : List Given) (count rest k : ℕ) : Type 0 where
   pub so-far : List Given
   pub within : k ≤ n
@@ -42,7 +42,7 @@ pub record Passed (i left : ℕ) (rows : List Offer) (n : ℕ) (bought : List Gi
   pub filled : count ≡ length so-far
   pub made : so-far ++ given i rest (slice k n rows) ≡ given i left (take n rows)
 
--- the first offer gives, and then the others of what it leaves
+-- the first offer gives, and then the others give from what it leaves
 given-first : (i left : ℕ) (x : Offer) (xs : List Offer)
     → given i left (x ∷ xs) ≡ withGiven x (quantityFrom x i left) (given i (left - quantityFrom x i left) xs)
 unfolding given givenBy offersFor withGiven
@@ -67,7 +67,7 @@ unfolding given givenBy offersFor
 given-none i left = refl
 
 module _ (i left : ℕ) (rows : List Offer) (n : ℕ) where
-  -- none has had its turn
+  -- before the first offer
   pub passed-none : Passed i left rows n (replicate 64 nothingGiven) 0 left 0
   passed-none = record {
     so-far = [];
@@ -78,14 +78,14 @@ module _ (i left : ℕ) (rows : List Offer) (n : ℕ) where
     made = refl;
   }
 
-  -- the same after a branch, which tells each of its values by an equation
+  -- the same after a branch, where each value is known by an equation
   pub passed-same : {bought bought' : List Given} {count count' rest rest' k : ℕ}
       → bought' ≡ bought → count' ≡ count → rest' ≡ rest
       → Passed i left rows n bought count rest k → Passed i left rows n bought' count' rest' k
   passed-same b e r p = rw (b, e, r) p
 
   module _ (bought : List Given) (count rest k : ℕ) (p : Passed i left rows n bought count rest k) where
-    -- one turn, of the offer x that gives q
+    -- the turn of the offer x, which gives q
     module _ (room : n ≤ 64) (size : length rows ≡ 64) (h : k < n)
         (x : Offer) (ex : x ≡ getD rows k noOffer) (q : ℕ) (eq : q ≡ quantityFrom x i rest) where
       next : given i rest (slice k n rows) ≡ withGiven x q (given i (rest - q) (slice (k + 1) n rows))
@@ -94,7 +94,7 @@ module _ (i left : ℕ) (rows : List Offer) (n : ℕ) where
           (ap (given i rest) (slice-cons k n rows noOffer h (omega arith))
           ∙ given-first i rest (getD rows k noOffer) (slice (suc k) n rows))
 
-      -- it gives
+      -- the case that it gives something
       pub passed-gives : 0 < q
           → Passed i left rows n (set bought count (record { offer = x; quantity = q })) (count + 1) (rest - q) (k + 1)
       passed-gives z =
@@ -110,7 +110,7 @@ module _ (i left : ℕ) (rows : List Offer) (n : ℕ) where
             made = rw (append-assoc, ← with-some x q later z, ← next) (p .made);
           }
 
-      -- it gives nothing
+      -- the case that it gives nothing
       pub passed-over : q ≤ 0 → Passed i left rows n bought count rest (k + 1)
       passed-over z =
           let same : given i rest (slice (k + 1) n rows) ≡ given i rest (slice k n rows) =
@@ -126,7 +126,7 @@ module _ (i left : ℕ) (rows : List Offer) (n : ℕ) where
             made = rw same (p .made);
           }
 
-    -- all have had their turn
+    -- after the last offer
     pub passed-all : n ≤ k
         → _≡_ {A = BuyIn} (record { given = bought; count = count }) (boughtWith (given i left (take n rows)))
     passed-all h =

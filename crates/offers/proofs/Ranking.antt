@@ -1,4 +1,4 @@
--- The order of the auction: rising price, then larger quantity, then earlier entry.
+-- Laws on the order of the auction (C7, Close): rising price, then larger quantity, then earlier entry.
 use Prim.Native.Nat.{_≤_, _<_}
 use native.Mathlib.Omega.{arith}
 use mathlib.Core.Path.{_≡_, refl, sym, ap, _∙_}
@@ -17,12 +17,12 @@ use Rattle.offers.specs.Rank.{overtakes, inserted, ranked, rankedBy, Ent
 use Rattle.basics.proofs.Everywhere.{every-map}
 use Rattle.offers.proofs.Insertion.{Kept, Ranks, Placed, every-inserted, inserted-sorted, inserted-keeps, ranked-perm, map-ranked}
 
--- x is no dearer than y, and at the same price no smaller
+-- x is not dearer than y, and at the same price it is not smaller
 pub record NoWorse (x y : Offer) : Type 0 where
   pub price : x .price ≤ y .price
   pub quantity : x .price ≡ y .price → y .quantity ≤ x .quantity
 
--- an offer that overtakes another is no dearer, and at the same price it is larger
+-- an offer that overtakes another is not dearer, and at the same price it is larger
 pub overtakes-true : (x y : Offer) → overtakes x y ≡ true
     → (x .price ≤ y .price) × (x .price ≡ y .price → y .quantity < x .quantity)
 unfolding overtakes
@@ -35,7 +35,7 @@ overtakes-true x y = by (ltb (x .price) (y .price)) (ltb (y .price) (x .price)) 
     by false true p q e = absurd (never e)
     by false false p q e = (ltb-false _ _ q, λ s. ltb-true _ _ e)
 
--- an offer that does not overtake another finds it no worse
+-- if x does not overtake y, then y is not dearer than x, and at the same price it is not smaller
 pub overtakes-false : (x y : Offer) → overtakes x y ≡ false → NoWorse y x
 unfolding overtakes
 overtakes-false x y = by (ltb (x .price) (y .price)) (ltb (y .price) (x .price)) refl refl
@@ -49,7 +49,7 @@ overtakes-false x y = by (ltb (x .price) (y .price)) (ltb (y .price) (x .price))
         record { price = omega arith; quantity = λ s. absurd (omega arith) }
     by false false p q e = record { price = ltb-false _ _ p; quantity = λ s. ltb-false _ _ e }
 
--- no offer overtakes one that is no worse
+-- an offer overtakes none that is not dearer and, at the same price, not smaller
 pub no-worse-kept : (x y : Offer) → NoWorse y x → overtakes x y ≡ false
 unfolding overtakes
 no-worse-kept x y a = by (ltb (y .price) (x .price)) refl
@@ -70,7 +70,7 @@ no-worse-transitive x y z a b = record {
       omega (arith, a .quantity p, b .quantity q);
 }
 
--- the two laws of the auction's order, on which all that is said of ranked offers rests
+-- The two laws of the auction's order. All that is said of ranked offers rests on them.
 pub overtakes-ranks : Ranks overtakes
 overtakes-ranks = record {
   total = λ x y e.
@@ -80,12 +80,12 @@ overtakes-ranks = record {
       no-worse-kept z x (no-worse-transitive x y z (overtakes-false y x p) (overtakes-false z y q));
 }
 
--- offers in order stay in order when one is entered
+-- offers in order stay in order when one more is entered
 pub inserted-in-rank : (o : Offer) {xs : List Offer}
     → Sorted (Kept overtakes) xs → Sorted (Kept overtakes) (inserted o xs)
 inserted-in-rank o s = inserted-keeps overtakes overtakes-ranks o s
 
--- the test on entries, which looks at their offers alone
+-- the test on entries looks at their offers alone
 abbrev overtakesEntry : Entry → Entry → Bool
 overtakesEntry x y = overtakes (x .offer) (y .offer)
 
@@ -106,7 +106,7 @@ taken-before-transitive x y z a b =
           omega (arith, a .entry p r, b .entry q s);
     }
 
--- the test puts a later entry o and an earlier y in the paper's order
+-- the test puts a later entry o and an earlier entry y in the order of C7
 placed-as-taken : (o y : Entry) → y .place < o .place → Placed overtakesEntry TakenBefore o y
 placed-as-taken o y h = record {
   first = λ e.
@@ -138,7 +138,7 @@ unfolding numbered
 numbered-offers [] = refl
 numbered-offers (o ∷ l) = ap (λ (xs : List Offer). o ∷ xs) (numbered-offers l)
 
--- offers entered one after another stand in the paper's order: all of them, each once
+-- Offers that were entered one after another stand in the order of C7. All of them are there, each once.
 pub ranked-in-order : (entered : List Offer) → InOrder entered (ranked entered)
 ranked-in-order entered = record {
   entries = rankedBy overtakesEntry (numbered entered);

@@ -1,4 +1,4 @@
--- How the result of a buy-in is read.
+-- Laws on how the result of a buy-in is read.
 use Prim.Native.Nat.{ℕ, _≤_}
 use native.Mathlib.Omega.{arith}
 use mathlib.Core.Path.{_≡_}
@@ -12,16 +12,16 @@ use Rattle.offers.specs.Held.{listed}
 use Rattle.offers.specs.BuyIn.{given, nothingGiven, boughtWith}
 use Rattle.offers.proofs.Giving.{given-most, given-all-most}
 
--- there are no more places filled than offers held
+-- no more places are filled than offers are held
 pub lines-most : (i left : ℕ) (s : Offers) → length (given i left (listed s)) ≤ s .count
 lines-most i left s = omega (arith, given-most i left (listed s), length-take (s .count) (s .rows))
 
--- so too over all obligations below n, whatever is left of each
+-- this also holds for all obligations below n together, whatever is left of each
 pub all-lines-most : (n : ℕ) (left : ℕ → ℕ) (s : Offers)
     → sum (table n (λ i. length (given i (left i) (listed s)))) ≤ s .count
 all-lines-most n left s = omega (arith, given-all-most n left (listed s), length-take (s .count) (s .rows))
 
--- the first count places are what was given
+-- the first count places hold what was given
 pub bought-given : (gs : List Given) → take (boughtWith gs .count) (boughtWith gs .given) ≡ gs
 bought-given gs = padded-front 64 nothingGiven gs
 

@@ -10,36 +10,37 @@ use Rattle.offers.specs.declared.Given.{Given}
 use Rattle.offers.specs.declared.BuyIn.{BuyIn}
 use Rattle.offers.specs.Held.{noOffer}
 
--- the offers for obligation i, in their order
+-- C7, Close: the offers for obligation i, in the order in which they stand in the list
 unfoldable pub offersFor : ℕ → List Offer → List Offer
 offersFor i [] = []
 offersFor i (x ∷ xs) = pick (eqb (x .obligation) i) (x ∷ offersFor i xs) (offersFor i xs)
 
--- 01, Close: an offer that gives nothing has no line
+-- C14, Close: an offer x that gives q units, ahead of the later ones; an offer that gives nothing is left out
 unfoldable pub withGiven : Offer → ℕ → List Given → List Given
 withGiven x q later = pick (eqb q 0) later (record { offer = x; quantity = q } ∷ later)
 
--- 01, Close, offers: each gives the smaller of its quantity and what is left
+-- C8, Close: each offer in its turn gives the smaller of its quantity and what is left
 unfoldable pub givenBy : ℕ → List Offer → List Given
 givenBy left [] = []
 givenBy left (x ∷ xs) = withGiven x (min (x .quantity) left) (givenBy (left - min (x .quantity) left) xs)
 
--- 01, Close, offers: what the offers for obligation i give, of which left units are outstanding
+-- C7 and C8, Close: what the offers for obligation i give, if left units of it are outstanding. They give in the order
+-- in which they stand in xs. The offers that a book holds stand in the order of C7 (Held, `listed`).
 unfoldable pub given : ℕ → ℕ → List Offer → List Given
 given i left xs = givenBy left (offersFor i xs)
 
--- the units given
+-- the units that are given
 abbrev pub units : List Given → ℕ
 units = total (λ g. g .quantity)
 
--- the units offered
+-- the units that are offered
 abbrev pub offered : List Offer → ℕ
 offered = total (λ x. x .quantity)
 
--- what stands in a free place
+-- this fills a free place
 abbrev pub nothingGiven : Given
 nothingGiven = record { offer = noOffer; quantity = 0 }
 
--- the result of a pass: what was given, in its order, and free places up to 64
+-- what a pass over the offers returns: what was given, in its order, and free places up to 64
 abbrev pub boughtWith : List Given → BuyIn
 boughtWith gs = record { given = padded 64 nothingGiven gs; count = length gs }

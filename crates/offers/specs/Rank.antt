@@ -1,4 +1,4 @@
--- The order of the auction.
+-- The order of the auction, in which the offers of a day give (C7, Close).
 use Prim.Native.Nat.{ℕ, _≤_, _<_}
 use mathlib.Core.Path.{_≡_}
 use mathlib.Core.Bool.{Bool, true, false}
@@ -9,13 +9,14 @@ use Rattle.basics.specs.Choice.{pick}
 use Rattle.basics.specs.Lists.{Sorted}
 use Rattle.offers.specs.declared.Offer.{Offer}
 
--- 01, Close, offers: a later offer x overtakes an earlier y by a lower price, or at the same price by a larger quantity
+-- C7, Close: whether a later offer x overtakes an earlier offer y. It does at a lower price, and at the same price with
+-- a larger quantity. Of two alike, the earlier stays ahead.
 unfoldable pub overtakes : Offer → Offer → Bool
 overtakes x y =
     pick (ltb (x .price) (y .price)) true
     (pick (ltb (y .price) (x .price)) false (ltb (y .quantity) (x .quantity)))
 
--- o ahead of the first that it overtakes, else at the end
+-- the list with o ahead of the first element that it overtakes, or at the end if it overtakes none
 unfoldable pub insertedBy : {A : Type 0} → (A → A → Bool) → A → List A → List A
 insertedBy over o [] = o ∷ []
 insertedBy over o (y ∷ ys) = pick (over o y) (o ∷ y ∷ ys) (y ∷ insertedBy over o ys)
@@ -24,32 +25,33 @@ insertedBy over o (y ∷ ys) = pick (over o y) (o ∷ y ∷ ys) (y ∷ insertedB
 abbrev pub inserted : Offer → List Offer → List Offer
 inserted = insertedBy overtakes
 
--- offers entered one after another, the last one entered at the head of the list, in the order of the auction
+-- elements that were entered one after another, ranked by the test; the last one entered is at the head of the given
+-- list
 unfoldable pub rankedBy : {A : Type 0} → (A → A → Bool) → List A → List A
 rankedBy over [] = []
 rankedBy over (o ∷ earlier) = insertedBy over o (rankedBy over earlier)
 
--- 01, Close, offers: by rising price, then larger quantity, then earlier entry
+-- C7, Close: the offers by rising price, then larger quantity, then earlier entry
 abbrev pub ranked : List Offer → List Offer
 ranked = rankedBy overtakes
 
--- an offer with its place in the order of entry
+-- an offer, with its place in the order of entry
 pub record Entry : Type 0 where
   pub offer : Offer
   pub place : ℕ
 
--- 01, Close, offers: x is taken before y, by rising price, then larger offered quantity, then earlier entry
+-- C7, Close: x is taken before y, by rising price, then larger offered quantity, then earlier entry
 pub record TakenBefore (x y : Entry) : Type 0 where
   pub price : x .offer .price ≤ y .offer .price
   pub quantity : x .offer .price ≡ y .offer .price → y .offer .quantity ≤ x .offer .quantity
   pub entry : x .offer .price ≡ y .offer .price → x .offer .quantity ≡ y .offer .quantity → x .place < y .place
 
--- the entered offers with their places, the last one entered at the head
+-- the entered offers with their places; the last one entered is at the head
 unfoldable pub numbered : List Offer → List Entry
 numbered [] = []
 numbered (o ∷ earlier) = record { offer = o; place = length earlier } ∷ numbered earlier
 
--- 01, Close, offers: xs are all the entered offers, each once, in the paper's order
+-- C7, Close: xs are all the entered offers, each once, in the order of C7
 pub record InOrder (entered xs : List Offer) : Type 0 where
   pub entries : List Entry
   pub these : map (λ e. e .offer) entries ≡ xs

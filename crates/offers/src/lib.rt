@@ -1,4 +1,4 @@
-// The day's offers, kept in the order of the auction, and the pass of a buy-in over them.
+// The day's offers, which are kept in the order of the auction, and the pass of a buy-in over them.
 ghost use mathlib.Core.Path.{_≡_};
 ghost use mathlib.Core.Bool.{_||_};
 ghost use Prim.Native.Nat.{_≤_, _<_, min};
@@ -16,7 +16,7 @@ pub struct Offer {
     pub price: u64,
 }
 
-// The offers of today, in the order of the auction: the first count rows.
+// The offers of today, in the order of the auction. They are the first count rows.
 pub struct Offers {
     pub rows: [Offer; 64],
     pub count: usize,
@@ -28,13 +28,13 @@ pub struct Given {
     pub quantity: u64,
 }
 
-// What the offers for one obligation give, in the order of the auction: the first count places.
+// What the offers for one obligation give, in the order of the auction. It is in the first count places.
 pub struct BuyIn {
     pub given: [Given; 64],
     pub count: usize,
 }
 
-// What stands in a free row.
+// This fills a free row.
 const NO_OFFER: Offer = Offer {
     obligation: 0,
     supplier: 0,
@@ -42,13 +42,14 @@ const NO_OFFER: Offer = Offer {
     price: 0,
 };
 
-// What stands in a free place of a buy-in.
+// This fills a free place of a buy-in.
 const NOTHING_GIVEN: Given = Given {
     offer: NO_OFFER,
     quantity: 0,
 };
 
-// Whether a later offer goes ahead of an earlier one: a lower price, or at the same price a larger quantity.
+// Says whether a later offer goes ahead of an earlier one: it does at a lower price, and at the same price with a
+// larger quantity.
 fn goes_ahead(later: Offer, earlier: Offer) -> bool
     ensures { λ r. ⌜ r ≡ overtakes later earlier ⌝ }
 {
@@ -61,7 +62,8 @@ fn goes_ahead(later: Offer, earlier: Offer) -> bool
     earlier.quantity < later.quantity
 }
 
-// Whether a row makes way for the offer that is carried along the rows: once one row has, every row behind it does.
+// Says whether a row makes way for the offer that is carried along the rows. Once one row has made way, every row
+// behind it does.
 fn makes_way(moved: bool, carried: Offer, row: Offer) -> bool
     ensures { λ r. ⌜ r ≡ (moved || overtakes carried row) ⌝ }
 {
@@ -71,14 +73,15 @@ fn makes_way(moved: bool, carried: Offer, row: Offer) -> bool
     goes_ahead(carried, row)
 }
 
-// The first offer where the test holds, else the second.
+// Returns the first offer where the test holds, and the second where it does not.
 fn either(test: bool, first: Offer, second: Offer) -> Offer
     ensures { λ r. ⌜ r ≡ pick test first second ⌝ }
 {
     if test { first } else { second }
 }
 
-// The quantity that an offer gives to an obligation: the smaller of its own and what is left, 0 if it is for another.
+// Returns the quantity that an offer gives to an obligation: the smaller of its own quantity and what is left, and 0 if
+// it is for another obligation.
 fn quantity_from(x: Offer, obligation: u64, left: u64) -> u64
     ensures { λ r. ⌜ r ≡ pick (eqb (x .obligation) obligation) (min (x .quantity) left) 0 ⌝ }
 {
@@ -89,7 +92,7 @@ fn quantity_from(x: Offer, obligation: u64, left: u64) -> u64
 }
 
 impl Offers {
-    // No offers, as each day begins.
+    // Returns no offers. Each day begins with these.
     pub fn none() -> Offers
         ensures { λ r. ⌜ r ≡ noOffers ⌝ }
     {
@@ -99,8 +102,8 @@ impl Offers {
         }
     }
 
-    // One offer more, ahead of the first that it overtakes. It is carried along the rows; from its place on, each row
-    // takes the offer that was ahead of it.
+    // Adds an offer ahead of the first one that it overtakes. The new offer is carried along the rows to its place.
+    // From there on, each row takes the offer that was ahead of it.
     pub fn insert(self, o: Offer) -> Offers
         requires { ⌜ self .count < 64 ⌝ }
         ensures { λ r. ⌜ r ≡ withOffer self o ⌝ }
@@ -124,8 +127,8 @@ impl Offers {
         }
     }
 
-    // The buy-in of one obligation of which some quantity is left: one pass over the offers, in the order of the
-    // auction. An offer that gives nothing is passed over.
+    // Makes the buy-in of one obligation, of which the given quantity is left. It passes once over the offers, in the
+    // order of the auction, and skips an offer that gives nothing.
     pub fn buy_in(self, obligation: u64, left: u64) -> BuyIn
         requires { ⌜ self .count ≤ 64 ⌝ }
         ensures { λ r. ⌜ r ≡ boughtWith (given obligation left (listed self)) ⌝ }

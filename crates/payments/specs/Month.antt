@@ -10,17 +10,18 @@ use Rattle.netting.specs.Accounts.{owed, claims}
 use Rattle.netting.specs.Shares.{shares}
 use Rattle.refusals.specs.Refusals.{Refusal, refuse, answer, outcome}
 
--- 01, Refusals, 5, of Month: a list not of 32
+-- R5, Refusals, of Month: one of the two lists has not just 32 words
 abbrev pub badLists : ℕ → ℕ → Bool
 badLists collected places = not (eqb collected 32) || not (eqb places 32)
 
--- 01, Refusals, 19: a collected amount above what that member owes
+-- R19, Refusals: an amount is above what its member owes
 unfoldable pub overCollected : List ℤ → List ℕ → Bool
 overCollected [] cs = false
 overCollected (a ∷ accounts) [] = false
 overCollected (a ∷ accounts) (c ∷ cs) = ltb (owed a) c || overCollected accounts cs
 
--- 01, Refusals, of Month: since is whether a Close came since Open or the last Month
+-- A13, R5, R19 and R21, Refusals, of Month: since says whether a Close was accepted since Open or since the last accepted
+-- Month
 unfoldable pub monthRefusals : List ℤ → Bool → List ℕ → ℕ → List Refusal
 monthRefusals accounts since collected places =
     refuse 5 (badLists (length collected) places)
@@ -28,15 +29,15 @@ monthRefusals accounts since collected places =
     ∷ refuse 21 (not since)
     ∷ []
 
--- 01, Month: the answer number, with this many places for payouts
+-- A13, Refusals, of Month: the answer number, with this many places for payouts
 abbrev pub monthNumber : List ℤ → Bool → List ℕ → ℕ → ℕ
 monthNumber accounts since collected places = answer (monthRefusals accounts since collected places)
 
--- 01, Month: the shares of the claims in what was collected
+-- M5 and M6, Month: the shares of the claims in what was collected
 abbrev pub payoutsOf : List ℤ → List ℕ → List ℕ
 payoutsOf accounts collected = shares (sum collected) (claims accounts)
 
--- 01, Month: every word of the places as it ends
+-- M3, Month, and A5, Refusals: every word of the places for payouts as the call ends
 unfoldable pub paidOut : List ℤ → Bool → List ℕ → List ℕ → List ℕ
 paidOut accounts since collected places =
     outcome (monthNumber accounts since collected (length places)) (payoutsOf accounts collected) (λ n. places)

@@ -5,7 +5,7 @@ ghost use lib.IntN.{pos};
 ghost use Rattle.netting.specs.Accounts.{Bounded, balance};
 ghost use Rattle.payments.specs.Month.{badLists, overCollected, monthNumber, paidOut};
 
-// Whether a list is not of 32.
+// Whether one of the two lists has not just 32 words.
 fn are_bad_lists(collected: usize, places: usize) -> bool
     ensures { λ r. ⌜ r ≡ badLists collected places ⌝ }
 {
@@ -15,7 +15,7 @@ fn are_bad_lists(collected: usize, places: usize) -> bool
     places != 32
 }
 
-// A list of 32 amounts as an array.
+// Copies a list of 32 amounts into an array.
 fn amounts_of(list: &[u64]) -> [u64; 32]
     requires { ⌜ length (now list) ≡ 32 ⌝ }
     ensures { λ r. ⌜ r ≡ now (list .entry) ⌝ }
@@ -45,7 +45,7 @@ fn is_over(accounts: [i64; 32], collected: [u64; 32]) -> bool
     false
 }
 
-// The shares are laid in the places for payouts.
+// Writes the shares into the places for payouts.
 fn pay(shares: [u64; 32], places: &mut [u64])
     requires { ⌜ length (now places) ≡ 32 ⌝ }
     ensures { λ r. ⌜ now (places .exit) ≡ shares ⌝ }
@@ -57,12 +57,13 @@ fn pay(shares: [u64; 32], places: &mut [u64])
     }
 }
 
-// Collects and pays out, or refuses; since is whether a Close came since Open or the last Month. Returns the answer
-// number.
+// Collects and pays out, or refuses, and returns the answer number. `since` says whether a Close was accepted since Open
+// or since the last accepted Month.
 pub fn settle_month(accounts: [i64; 32], since: bool, collected: &[u64], places: &mut [u64]) -> u64
     requires { ⌜ (Bounded accounts) × (balance accounts ≡ pos 0) ⌝ }
     ensures { λ r. ⌜ r ≡ monthNumber accounts since (now (collected .entry)) (length (now (places .entry))) ⌝ }
     ensures { λ r. ⌜ now (places .exit) ≡ paidOut accounts since (now (collected .entry)) (now (places .entry)) ⌝ }
+    ensures { λ r. ⌜ now (collected .exit) ≡ now (collected .entry) ⌝ }
 {
     if are_bad_lists(collected.len(), places.len()) {
         return 5;

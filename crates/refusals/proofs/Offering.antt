@@ -3,7 +3,6 @@ use Prim.Native.Nat.{ℕ, _≤_, _<_}
 use mathlib.Core.Path.{_≡_, refl}
 use lib.Dec.{ltb}
 use borrow.Author.Tests.{ltb-false, leb-false}
-use Rattle.basics.specs.Lists.{Every}
 use Rattle.basics.proofs.Cases.{or-false}
 use Rattle.calendar.specs.declared.Day.{Day}
 use Rattle.amounts.specs.Amounts.{mostQuantity, mostOfferPrice}
@@ -11,14 +10,9 @@ use Rattle.ledger.specs.declared.Terms.{Terms}
 use Rattle.ledger.specs.declared.Obligation.{Obligation}
 use Rattle.refusals.specs.Refusals.{answer, outside}
 use Rattle.refusals.specs.Calls.{offerRefusalsIn, offerRefusalsOf}
-use Rattle.refusals.proofs.Refusals.{passed, is-printed}
+use Rattle.refusals.proofs.Refusals.{passed}
 
 module _ (supplier q price : ℕ) where
-  -- none of them has the number 0
-  pub offer-some : Every (λ r. 0 < r .number) (offerRefusalsIn supplier q price)
-  unfolding offerRefusalsIn
-  offer-some = is-printed (offerRefusalsIn supplier q price) refl .some
-
   -- the price of one that passes them
   pub input-price : answer (offerRefusalsIn supplier q price) ≡ 0 → price ≤ mostOfferPrice
   unfolding offerRefusalsIn

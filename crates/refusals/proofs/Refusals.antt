@@ -51,10 +51,24 @@ passed n t rs = by t
     by true e f = absurd (eqb-false n 0 f e)
     by false e f = (refl, e)
 
--- what holds of a refused call and of one that is done holds of its outcome
+-- what holds of a call refused by its number, and of one that is done, holds of its outcome
+pub by-number : {A : Type 0} (P : A → Type 0) (n : ℕ) (done : A) (refused : ℕ → A) →
+    ((n ≡ 0 → ⊥) → P (refused n)) → (n ≡ 0 → P done) → P (outcome n done refused)
+by-number P n done refused f g = pick-case P (eqb n 0) done (refused n) (λ e. g (eqb-true n 0 e)) (λ e. f (eqb-false n 0 e))
+
+-- so too of two things that go by the same number
+pub by-number₂ : {A B : Type 0} (P : A → B → Type 0) (n : ℕ) (done : A) (refused : ℕ → A) (done' : B) (refused' : ℕ → B) →
+    ((n ≡ 0 → ⊥) → P (refused n) (refused' n)) → (n ≡ 0 → P done done') → P (outcome n done refused) (outcome n done' refused')
+by-number₂ P n done refused done' refused' f g = by (eqb n 0) refl
+  where
+    by : (t : Bool) → eqb n 0 ≡ t → P (pick t done (refused n)) (pick t done' (refused' n))
+    by true e = g (eqb-true n 0 e)
+    by false e = f (eqb-false n 0 e)
+
+-- so too where it holds of a call refused by whatever number
 pub outcome-case : {A : Type 0} (P : A → Type 0) (rs : List Refusal) (done : A) (refused : ℕ → A) →
     ((n : ℕ) → P (refused n)) → (answer rs ≡ 0 → P done) → P (outcome (answer rs) done refused)
-outcome-case P rs done refused f g = pick-case P (eqb (answer rs) 0) done (refused (answer rs)) (λ e. g (eqb-true (answer rs) 0 e)) (λ e. f (answer rs))
+outcome-case P rs done refused f g = by-number P (answer rs) done refused (λ z. f (answer rs)) g
 
 -- ---- the law
 -- refusals as the rules print them: rising numbers, none of them 0

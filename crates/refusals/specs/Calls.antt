@@ -1,4 +1,5 @@
--- The refusals of each call that need no book: from its input, and on the obligation that was fetched.
+-- The refusals of each call that need no book: from its input, on the obligation that was fetched, and by the next
+-- clearing day.
 use Prim.Native.Nat.{ℕ}
 use mathlib.Core.Bool.{Bool, true, false, _||_, not}
 use mathlib.Core.List.{List, [], _∷_, _++_}
@@ -13,22 +14,38 @@ use Rattle.amounts.specs.Amounts.{mostQuantity, mostAmount, mostClosePrice, mos
 use Rattle.instructions.specs.declared.Leg.{Leg}
 use Rattle.ledger.specs.declared.Terms.{Terms}
 use Rattle.ledger.specs.declared.Obligation.{Obligation}
+use Rattle.ledger.specs.declared.Fetched.{Fetched}
+use Rattle.ledger.specs.declared.Fetched.the-variants.{Found, Absent}
 use Rattle.ledger.specs.Obligations.{isParty, hasWished, inBuyIn}
-use Rattle.refusals.specs.Refusals.{Refusal, refuse, outside, noMember}
+use Rattle.refusals.specs.Refusals.{Refusal, refuse, answer, outcome, outside, noMember}
 
--- 01, Refusals, 11, of Open: the first day no clearing day or above 65,535
+-- ---- calls that name an obligation
+-- A4 and R13, Refusals: the obligation is fetched after the refusals of the input. If it is absent, 13 holds, and there
+-- is nothing else to refuse by. If it was found, 13 does not hold, and the further refusals are conditions on it.
+abbrev pub fetchRefusals : List Refusal → Fetched → (Obligation → List Refusal) → List Refusal
+fetchRefusals input Absent on = input ++ refuse 13 true ∷ []
+fetchRefusals input (Found o) on = input ++ refuse 13 false ∷ on o
+
+-- A4 and A5, Refusals: the outcome by the answer of the fetch. If the obligation is absent, the call is refused. If it
+-- was found, the call is done on it or refused.
+unfoldable pub fetchOutcome : {A : Type 0} → List Refusal → Fetched → (Obligation → List Refusal) → (Obligation → A) → (ℕ → A) → A
+fetchOutcome input Absent on done refused = refused (answer (fetchRefusals input Absent on))
+fetchOutcome input (Found o) on done refused = outcome (answer (fetchRefusals input (Found o) on)) (done o) refused
+
+-- ---- Open and Enter
+-- R11, Refusals, of Open: the first day does not clear or is above 65,535
 abbrev pub badFirst : ClosedDays → Day → Bool
 badFirst closed first = ltb lastDay (first .0) || not (clearing (listed closed) first)
 
--- 01, Refusals, 1, of Enter
+-- R1, Refusals, of Enter: a member is above 31, both members are the same, or the side is above 1
 abbrev pub badParties : ℕ → ℕ → ℕ → Bool
 badParties member other side = noMember member || (noMember other || (eqb member other || ltb 1 side))
 
--- 01, Refusals, 11, of Enter: J no clearing day, before today or above 60,000
+-- R11, Refusals, of Enter: J does not clear, is before today or is above 60,000
 abbrev pub badDay : ClosedDays → Day → Day → Bool
 badDay closed today j = not (clearing (listed closed) j) || (ltb (j .0) (today .0) || ltb 60000 (j .0))
 
--- 01, Refusals, of Enter: in a book with these closed days, this day and this many legs
+-- A7, Refusals, of Enter: in a book with these closed days, this day and this many legs
 unfoldable pub enterRefusals : ClosedDays → Day → ℕ → Leg → List Refusal
 enterRefusals closed today legs new =
     refuse 1 (badParties (new .member) (new .other) (new .side))
@@ -38,21 +55,40 @@ enterRefusals closed today legs new =
     ∷ refuse 12 (leb 128 legs)
     ∷ []
 
--- 01, Refusals, of Cancel on the obligation that was fetched
+-- ---- Cancel
+-- A9 and R1, Refusals, of Cancel from its input
+abbrev pub cancelRefusalsIn : ℕ → List Refusal
+cancelRefusalsIn member = refuse 1 (noMember member) ∷ []
+
+-- A9, R14 and R15, Refusals, of Cancel on the obligation that was found
 unfoldable pub cancelRefusalsOf : Obligation → ℕ → List Refusal
 cancelRefusalsOf o member =
     refuse 14 (not (isParty o member) || hasWished o member)
     ∷ refuse 15 (eqb (o .parts .outstanding) 0)
     ∷ []
 
--- 01, Refusals, of Deliver on the obligation that was fetched
+-- ---- Deliver
+-- A10 and R2, Refusals, of Deliver from its input
+abbrev pub deliverRefusalsIn : ℕ → List Refusal
+deliverRefusalsIn q = refuse 2 (outside 1 mostQuantity q) ∷ []
+
+-- A10, R15 and R16, Refusals, of Deliver on the obligation that was found
 unfoldable pub deliverRefusalsOf : Day → Obligation → ℕ → List Refusal
 deliverRefusalsOf today o q =
     refuse 15 (ltb (o .parts .outstanding) q)
     ∷ refuse 16 (ltb (today .0) (o .day .0))
     ∷ []
 
--- 01, Refusals, of Offer on the obligation that was fetched, with its age and this many offers
+-- ---- Offer
+-- A11 and R1 to R3, Refusals, of Offer from its input
+unfoldable pub offerRefusalsIn : ℕ → ℕ → ℕ → List Refusal
+offerRefusalsIn supplier q price =
+    refuse 1 (ltb 999 supplier)
+    ∷ refuse 2 (outside 1 mostQuantity q)
+    ∷ refuse 3 (outside 1 mostOfferPrice price)
+    ∷ []
+
+-- A11 and R15 to R18, Refusals, of Offer on the obligation that was found, with its age, in a book with this many offers
 unfoldable pub offerRefusalsOf : Terms → Day → ℕ → ℕ → Obligation → ℕ → List Refusal
 offerRefusalsOf terms today age offers o price =
     refuse 15 (eqb (o .parts .outstanding) 0)
@@ -61,31 +97,20 @@ offerRefusalsOf terms today age offers o price =
     ∷ refuse 18 (aboveCap price (o .«grace_price»))
     ∷ []
 
--- 01, Refusals, of Offer from the input
-unfoldable pub offerRefusalsIn : ℕ → ℕ → ℕ → List Refusal
-offerRefusalsIn supplier q price =
-    refuse 1 (ltb 999 supplier)
-    ∷ refuse 2 (outside 1 mostQuantity q)
-    ∷ refuse 3 (outside 1 mostOfferPrice price)
-    ∷ []
-
--- 01, Close: the fewest words of its list
+-- ---- Close
+-- C1, Close: the fewest words of its list
 abbrev pub fewestWords : ℕ
 fewestWords = 1152
 
--- 01, Refusals, 20: no clearing day after today
-abbrev pub isNever : NextDay → Bool
-isNever (At d) = false
-isNever Never = true
-
--- 01, Refusals, 3, of Close
+-- R3, Refusals, of Close: the price is 0 or above 150,000, or the rate is above 100
 abbrev pub badRates : ℕ → ℕ → Bool
 badRates price rate = outside 1 mostClosePrice price || ltb mostRate rate
 
--- 01, Refusals, of Close from the input, with this many words lent
+-- A12, R3 and R5, Refusals, of Close from its input, with this many words lent
 unfoldable pub closeRefusalsIn : ℕ → ℕ → ℕ → List Refusal
 closeRefusalsIn price rate words = refuse 3 (badRates price rate) ∷ refuse 5 (ltb words fewestWords) ∷ []
 
--- 01, Refusals, of Close: next is the next clearing day after today
+-- A12 and R20, Refusals, of Close: by the next clearing day after today. If there is none, 20 holds.
 unfoldable pub closeRefusals : ℕ → ℕ → ℕ → NextDay → List Refusal
-closeRefusals price rate words next = closeRefusalsIn price rate words ++ refuse 20 (isNever next) ∷ []
+closeRefusals price rate words Never = closeRefusalsIn price rate words ++ refuse 20 true ∷ []
+closeRefusals price rate words (At next) = closeRefusalsIn price rate words ++ refuse 20 false ∷ []

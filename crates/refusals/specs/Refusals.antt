@@ -10,23 +10,23 @@ pub record Refusal : Type 0 where
   pub number : ℕ
   pub holds : Bool
 
--- 01, Refusals: a condition under its number
+-- a condition under its number
 abbrev pub refuse : ℕ → Bool → Refusal
 refuse n t = record { number = n; holds = t }
 
--- 01, Refusals: of several that hold, the smallest is given; 0 is done. The list has rising numbers.
+-- A1 and A2, Refusals: the smallest number whose condition holds, or 0 if none does. The numbers of the list rise.
 unfoldable pub answer : List Refusal → ℕ
 answer [] = 0
 answer (r ∷ rs) = pick (r .holds) (r .number) (answer rs)
 
--- a call that gets this answer number is done, or refused by it
+-- A1, Refusals: a call with this answer number is done if the number is 0, and refused by the number otherwise
 abbrev pub outcome : {A : Type 0} → ℕ → A → (ℕ → A) → A
 outcome n done refused = pick (eqb n 0) done (refused n)
 
--- 01, Refusals, 2 and 3: a number that is not low to high
+-- R2 and R3, Refusals: a number is below the lowest or above the highest that is taken
 abbrev pub outside : ℕ → ℕ → ℕ → Bool
 outside low high x = ltb x low || ltb high x
 
--- 01, Refusals, 1: a member above 31
+-- R1, Refusals: the member is above 31
 abbrev pub noMember : ℕ → Bool
 noMember m = ltb 31 m

@@ -13,7 +13,7 @@ ghost use Rattle.refusals.specs.Refusals.{outside, answer};
 ghost use Rattle.refusals.specs.Calls.{badFirst, badParties, badDay, enterRefusals, cancelRefusalsOf};
 ghost use Rattle.refusals.specs.Calls.{deliverRefusalsOf, offerRefusalsIn, offerRefusalsOf, badRates, closeRefusalsIn};
 
-// Whether a number is not low to high.
+// Whether a number is below `low` or above `high`.
 pub fn is_outside(low: u64, high: u64, x: u64) -> bool
     ensures { λ r. ⌜ r ≡ outside low high x ⌝ }
 {
@@ -39,7 +39,7 @@ pub fn are_bad_parties(member: u64, other: u64, side: u64) -> bool
     1 < side
 }
 
-// Whether a first day is refused: after the last day of the calendar, or no clearing day.
+// Whether a first day is refused: it is above 65,535, or it does not clear.
 pub fn is_bad_first(closed: ClosedDays, first: Day) -> bool
     ensures { λ r. ⌜ r ≡ badFirst closed first ⌝ }
 {
@@ -53,7 +53,7 @@ pub fn is_bad_first(closed: ClosedDays, first: Day) -> bool
     }
 }
 
-// Whether a settlement day is refused: no clearing day, before today or above 60,000.
+// Whether a settlement day is refused: it does not clear, is before today or is above 60,000.
 fn is_bad_day(closed: ClosedDays, today: Day, day: Day) -> bool
     ensures { λ r. ⌜ r ≡ badDay closed today day ⌝ }
 {

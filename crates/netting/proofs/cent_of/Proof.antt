@@ -1,4 +1,5 @@
--- cent_of meets its contract: a member wins a cent exactly if its rank is below the cents left, and no rank is below 0.
+-- `cent_of` meets its contract: a member gets a cent exactly if its rank is below the cents left, and no rank is below
+-- 0.
 use native.Mathlib.Omega.{arith}
 use borrow.Author.Needs.{needs}
 use Rattle.netting.proofs.Steps.{cent-won, cent-missed}

@@ -1,4 +1,4 @@
--- claim_of meets its contract: an account within the bound is read as it is, so its sign and size give the claim.
+-- `claim_of` meets its contract: an account within the bound is read unchanged, so its sign and size give the claim.
 use Rattle.netting.proofs.Signed.{claim-fits, claim-is, claim-none}
 use Rattle.netting.proofs.claim_of.Statement.{statement}
 use Rattle.netting.proofs.claim_of.Tie as tie

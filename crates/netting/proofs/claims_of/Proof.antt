@@ -1,4 +1,4 @@
--- claims_of meets its contract: after m turns the first m places hold the claims of the first m accounts.
+-- `claims_of` meets its contract: after m turns the first m places hold the claims of the first m accounts.
 use Prim.Native.Nat.{ℕ, _-_, _≤_, _<_}
 use native.Mathlib.Omega.{arith}
 use mathlib.Core.Path.{_≡_, ap, _∙_}

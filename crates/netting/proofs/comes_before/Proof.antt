@@ -1,4 +1,4 @@
--- comes_before meets its contract: the tests on the way to each answer pick the same one in the definition.
+-- `comes_before` meets its contract: the tests that lead to each answer choose the same one in the definition.
 use borrow.Author.Needs.{needs}
 use borrow.Author.Tests.{lt-ltb, le-ltb}
 use Rattle.netting.specs.Shares.{comesBefore}

@@ -1,4 +1,5 @@
--- owed_by meets its contract: an account within the bound is read as it is, so 0 less a negative one is what it owes.
+-- `owed_by` meets its contract: an account within the bound is read unchanged, so 0 less a negative one is what it
+-- owes.
 use Rattle.netting.proofs.Signed.{size-fits, owed-fits, owed-is, owed-none}
 use Rattle.netting.proofs.owed_by.Statement.{statement}
 use Rattle.netting.proofs.owed_by.Tie as tie

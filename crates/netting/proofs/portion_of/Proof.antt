@@ -1,4 +1,5 @@
--- portion_of meets its contract: no claim divides to nothing; any other has a whole above 0, as the division asks.
+-- `portion_of` meets its contract: for a claim of 0 both numbers are 0; for any other the whole is above 0, as the
+-- division requires.
 use borrow.Author.Needs.{needs}
 use Rattle.amounts.proofs.Products.{divided-none}
 use Rattle.netting.proofs.portion_of.Statement.{statement}

@@ -1,5 +1,5 @@
--- portions_of meets its contract: after m turns the first m floors and remainders are those of the definition;
--- the floors of all take no more than is collected, so the difference fits.
+-- `portions_of` meets its contract: after m turns the first m floors and remainders are those of the definition. All
+-- floors add up to no more than is collected, so the difference fits.
 use Prim.Native.Nat.{ℕ, _-_, _≤_, _<_}
 use native.Mathlib.Omega.{arith}
 use mathlib.Core.Path.{ap, _≡_}

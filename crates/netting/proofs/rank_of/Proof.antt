@@ -1,4 +1,4 @@
--- rank_of meets its contract: after k turns the count is that of the first k members that come before m.
+-- `rank_of` meets its contract: after k turns the count is that of the first k members that come before m.
 use Prim.Native.Nat.{_+_, ℕ, _-_, _≤_}
 use native.Mathlib.Omega.{arith}
 use mathlib.Core.Bool.{Bool, true, false}

@@ -1,4 +1,4 @@
--- share_of meets its contract: the definition by the same test, and a floor within the bound leaves room for a cent.
+-- `share_of` meets its contract: the definition has the same test, and a floor within the bound leaves room for a cent.
 use native.Mathlib.Nat.{pos-of-ne-zero}
 use native.Mathlib.Omega.{arith}
 use borrow.Author.Needs.{needs}

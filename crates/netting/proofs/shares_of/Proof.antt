@@ -1,4 +1,4 @@
--- shares_of meets its contract: after m turns the first m places hold the shares of the first m members.
+-- `shares_of` meets its contract: after m turns the first m places hold the shares of the first m members.
 use Prim.Native.Nat.{ℕ, _-_, _≤_, _<_}
 use native.Mathlib.Omega.{arith}
 use mathlib.Core.Path.{ap, _∙_, _≡_}

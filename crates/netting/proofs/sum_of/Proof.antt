@@ -1,4 +1,4 @@
--- sum_of meets its contract: what is added so far and what is left to add are together the whole sum, which fits.
+-- `sum_of` meets its contract: what was added so far and what is left to add are together the whole sum, which fits.
 use Prim.Native.Nat.{_+_, _-_, _≤_}
 use native.Mathlib.Omega.{arith}
 use mathlib.Core.Path.{_≡_}

@@ -1,4 +1,4 @@
--- transfer meets its contract: both accounts stay far inside 64 bits, so difference and sum are the true ones.
+-- `transfer` meets its contract: both accounts stay far inside 64 bits, so the machine computes them exactly.
 use borrow.Author.Needs.{needs}
 use Rattle.netting.proofs.Transfers.{debit-fits, credit-fits, transfer-is}
 use Rattle.netting.proofs.transfer.Statement.{statement}

@@ -1,4 +1,4 @@
--- `goes_ahead` meets its contract: each way through its tests is a case of `overtakes`.
+-- `goes_ahead` meets its contract: each path through its tests is a case of `overtakes`.
 use borrow.Author.Tests.{lt-ltb, le-ltb}
 use Rattle.offers.specs.Rank.{overtakes}
 use Rattle.offers.proofs.goes_ahead.Statement.{statement}

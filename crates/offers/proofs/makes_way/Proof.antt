@@ -1,4 +1,4 @@
--- `makes_way` meets its contract: a row that has moved decides by itself, else `goes_ahead` does.
+-- `makes_way` meets its contract: once a row has moved the answer is yes, and before that `goes_ahead` decides.
 use borrow.Author.Needs.{needs}
 use Rattle.offers.proofs.makes_way.Statement.{statement}
 use Rattle.offers.proofs.makes_way.Tie as tie

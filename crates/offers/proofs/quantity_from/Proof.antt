@@ -1,4 +1,4 @@
--- `quantity_from` meets its contract: the two ways of its test, and what `smaller` gives.
+-- `quantity_from` meets its contract by the two outcomes of its test and what `smaller` returns.
 use borrow.Author.Tests.{eq-eqb, ne-eqb}
 use borrow.Author.Needs.{needs}
 use Rattle.offers.proofs.quantity_from.Statement.{statement}

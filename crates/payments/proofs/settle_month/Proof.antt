@@ -20,7 +20,7 @@ are-bad-lists-requires c κs = search needs
 returns : tie.Need-returns
 unfolding monthRefusals paidOut
 returns c = let t = sym (c .before .are-bad-lists .ensures) ∙ c .if1 .taken in
-    let e = stop 5 _ t in (sym e, refused-by 5 _ _ (λ k. c .before .before .before .before .args .places .now) e refl)
+    let e = stop 5 _ t in (sym e, (refused-by 5 _ _ (λ k. c .before .before .before .before .args .places .now) e refl, refl))
 
 amounts-of-requires : tie.Need-amounts-of-requires
 amounts-of-requires c κs = good-lists (length (c .before .before .before .before .args .collected .now)) (length (c .before .before .before .before .args .places .now)) (sym (c .before .are-bad-lists .ensures) ∙ c .if1 .left) .0
@@ -32,13 +32,13 @@ returns-2 : tie.Need-returns-2
 unfolding monthRefusals paidOut
 returns-2 c = let t = sym (c .before .before .before .before .are-bad-lists .ensures) ∙ c .before .before .before .if1 .left in
     let u = sym (c .before .is-over .ensures ∙ ap (overCollected _) (c .before .before .amounts-of .ensures)) ∙ c .if2 .taken in
-    let e = pass 5 _ t ∙ stop 19 _ u in (sym e, refused-by 19 _ _ (λ k. c .before .before .before .before .before .before .before .args .places .now) e refl)
+    let e = pass 5 _ t ∙ stop 19 _ u in (sym e, (refused-by 19 _ _ (λ k. c .before .before .before .before .before .before .before .args .places .now) e refl, refl))
 
 returns-3 : tie.Need-returns-3
 unfolding monthRefusals paidOut
 returns-3 c = let t = sym (c .before .before .before .before .before .are-bad-lists .ensures) ∙ c .before .before .before .before .if1 .left in
     let u = sym (c .before .before .is-over .ensures ∙ ap (overCollected _) (c .before .before .before .amounts-of .ensures)) ∙ c .before .if2 .left in
-    let e = pass 5 _ t ∙ pass 19 _ u ∙ stop 21 _ (ap not (c .if3 .left)) in (sym e, refused-by 21 _ _ (λ k. c .before .before .before .before .before .before .before .before .args .places .now) e refl)
+    let e = pass 5 _ t ∙ pass 19 _ u ∙ stop 21 _ (ap not (c .if3 .left)) in (sym e, (refused-by 21 _ _ (λ k. c .before .before .before .before .before .before .before .before .args .places .now) e refl, refl))
 
 sum-of-requires : tie.Need-sum-of-requires
 sum-of-requires c κs = let a = c .before .before .before .before .before .before .before .before .args in let h = c .before .before .before .before .before .before .before .before .pre in
@@ -67,7 +67,7 @@ returns-4 c = let a = c .before .before .before .before .before .before .before 
     let u = sym (c .before .before .before .before .before .before .before .before .is-over .ensures ∙ ap (overCollected _) (c .before .before .before .before .before .before .before .before .before .amounts-of .ensures)) ∙ c .before .before .before .before .before .before .before .if2 .left in
     let e = pass 5 _ t ∙ pass 19 _ u ∙ pass 21 _ (ap not (c .before .before .before .before .before .before .if3 .taken)) ∙ all-passed in
     let all = c .before .before .before .before .before .sum-of .ensures ∙ ap sum (c .before .before .before .before .before .before .before .before .before .amounts-of .ensures) in
-    (sym e, c .before .before .pay .ensures ∙ c .before .before .before .before .shares-of .ensures ∙ ap (λ (n : ℕ). shares n (claims (a .accounts))) all ∙ done-by _ _ (λ k. a .places .now) e)
+    (sym e, (c .before .before .pay .ensures ∙ c .before .before .before .before .shares-of .ensures ∙ ap (λ (n : ℕ). shares n (claims (a .accounts))) all ∙ done-by _ _ (λ k. a .places .now) e, refl))
 
 pub settle-month-spec : {M : Type 1} → statement M
 settle-month-spec =

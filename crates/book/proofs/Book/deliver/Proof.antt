@@ -1,20 +1,20 @@
 -- `deliver` meets its contract.
 use native.Mathlib.Omega.{arith}
-use mathlib.Core.Path.{refl, sym, ap, _∙_}
+use mathlib.Core.Path.{refl, sym, _∙_}
 use borrow.Author.Needs.{needs}
 use borrow.Author.Tests.{ltb-true, ltb-false}
-use Rattle.ledger.specs.Ledger.{fetched, withObligation}
+use Rattle.ledger.specs.Ledger.{withObligation}
 use Rattle.book.specs.Book.{withLedger}
-use Rattle.book.specs.Instructing.{deliver, deliverRefusals, deliverRefused}
+use Rattle.book.specs.Instructing.{deliver, deliverRefused, deliverDone}
 use Rattle.refusals.specs.Calls.{deliverRefusalsOf}
 use Rattle.book.specs.declared.Delivered.{Delivered}
-use Rattle.ledger.specs.Obligations.{delivering, cashOf, Takes}
-use Rattle.ledger.specs.declared.Obligation.{Obligation}
+use Rattle.ledger.specs.Obligations.{cashOf, Takes}
 use Rattle.book.proofs.Answers.{answered}
 use Rattle.book.proofs.Book.deliver.Statement.{statement}
 use Rattle.book.proofs.Kept.{deliver-valid}
-use Rattle.refusals.proofs.Refusals.{pass, stop, passed, refused-by, refused-with, done-by}
-use Rattle.ledger.proofs.Valid.{There, found-there, absent-not, there-sound}
+use Rattle.refusals.proofs.Refusals.{pass, stop, passed, all-passed}
+use Rattle.refusals.proofs.Named.{input-refused, absent-refused, found-refused, found-done}
+use Rattle.ledger.proofs.Valid.{There, found-there, there-sound}
 use Rattle.book.proofs.Book.deliver.Tie as tie
 
 there : (c : tie.After-found) → There (c .before .before .before .before .before .before .args .self .ledger) (c .before .before .before .before .before .before .args .obligation) (c .found .given .0 .0)
@@ -31,8 +31,8 @@ is-outside-requires : tie.Need-is-outside-requires
 is-outside-requires c κs = search needs
 
 returns : tie.Need-returns
-unfolding deliver deliverRefusals fetched
-returns c = (refused-by 2 _ _ (deliverRefused _) (stop 2 _ (sym (c .before .is-outside .ensures) ∙ c .if1 .taken)) refl, c .before .before .pre)
+unfolding deliver
+returns c = (input-refused _ _ _ (deliverRefused _) _ 2 (stop 2 _ (sym (c .before .is-outside .ensures) ∙ c .if1 .taken)) (λ z. absurd (omega arith)), c .before .before .pre)
 
 fetch-requires : tie.Need-fetch-requires
 fetch-requires c κs = search needs
@@ -44,15 +44,15 @@ enum-told : tie.Need-enum-told
 enum-told c = search needs
 
 returns-2 : tie.Need-returns-2
-unfolding deliver deliverRefusals fetched
-returns-2 c = (refused-by 13 _ _ (deliverRefused _) (pass 2 _ (sym (c .before .before .before .before .before .is-outside .ensures) ∙ c .before .before .before .before .if1 .left) ∙ stop 13 _ (rw (absent-not _ _ (sym (c .before .before .fetch .ensures) ∙ c .enum-told .given .1)))) refl, c .before .before .before .before .before .before .pre)
+unfolding deliver
+returns-2 c = (absent-refused _ _ _ (deliverRefused _) refl (pass 2 _ (sym (c .before .before .before .before .before .is-outside .ensures) ∙ c .before .before .before .before .if1 .left) ∙ all-passed) _ (sym (c .before .before .fetch .ensures) ∙ c .enum-told .given .1), c .before .before .before .before .before .before .pre)
 
 deliver-answer-requires : tie.Need-deliver-answer-requires
 deliver-answer-requires c κs = search needs
 
 returns-3 : tie.Need-returns-3
-unfolding deliver deliverRefusals fetched
-returns-3 c = let t = there (c .before .before .before) in (refused-with _ _ _ (deliverRefused _) (pass 2 _ (sym (c .before .before .before .before .before .before .before .before .is-outside .ensures) ∙ c .before .before .before .before .before .before .before .if1 .left) ∙ pass 13 _ (rw (t .below)) ∙ rw (← t .same) (sym (c .before .deliver-answer .ensures))) (c .if2 .taken), c .before .before .before .before .before .before .before .before .before .pre)
+unfolding deliver
+returns-3 c = (found-refused _ _ _ (deliverRefused _) refl (pass 2 _ (sym (c .before .before .before .before .before .before .before .before .is-outside .ensures) ∙ c .before .before .before .before .before .before .before .if1 .left) ∙ all-passed) _ _ _ (sym (c .before .before .before .before .before .fetch .ensures) ∙ c .before .before .before .found .given .1) (sym (c .before .deliver-answer .ensures)) (c .if2 .taken), c .before .before .before .before .before .before .before .before .before .pre)
 
 deliver-requires : tie.Need-deliver-requires
 deliver-requires c κs = takes c
@@ -64,13 +64,12 @@ cash-for-requires : tie.Need-cash-for-requires
 cash-for-requires c κs = takes (c .before .before)
 
 returns-4 : tie.Need-returns-4
-unfolding deliver deliverRefusals fetched
-returns-4 c = let t = there (c .before .before .before .before .before .before) in let a = c .before .before .before .before .before .before .before .before .before .before .before .before .args in
+unfolding deliver
+returns-4 c = let a = c .before .before .before .before .before .before .before .before .before .before .before .before .args in let o = c .before .before .before .before .before .before .found .given .0 .0 in
     answered (λ (r : Delivered). r .book)
     ((λ i. record { answer = 0; cash = c .cash-for .ensures i; book = withLedger (c .before .replace .ensures i) (a .self) })
-    ∙ (λ i. record { answer = 0; cash = cashOf (c .before .before .before .before .before .before .found .given .0 .0) (a .quantity); book = withLedger (withObligation (a .obligation) (c .before .before .deliver .ensures i) (a .self .ledger)) (a .self) })
-    ∙ ap (λ (o : Obligation). record { answer = 0; cash = cashOf o (a .quantity); book = withLedger (withObligation (a .obligation) (delivering (a .quantity) o) (a .self .ledger)) (a .self) }) (t .same)
-    ∙ done-by _ _ (deliverRefused _) (pass 2 _ (sym (c .before .before .before .before .before .before .before .before .before .before .before .is-outside .ensures) ∙ c .before .before .before .before .before .before .before .before .before .before .if1 .left) ∙ pass 13 _ (rw (t .below)) ∙ rw (← t .same) (sym (c .before .before .before .before .deliver-answer .ensures) ∙ c .before .before .before .if2 .left)))
+    ∙ (λ i. record { answer = 0; cash = cashOf o (a .quantity); book = withLedger (withObligation (a .obligation) (c .before .before .deliver .ensures i) (a .self .ledger)) (a .self) })
+    ∙ found-done _ _ (deliverDone (a .self) (a .obligation) (a .quantity)) (deliverRefused _) refl (pass 2 _ (sym (c .before .before .before .before .before .before .before .before .before .before .before .is-outside .ensures) ∙ c .before .before .before .before .before .before .before .before .before .before .if1 .left) ∙ all-passed) _ o (sym (c .before .before .before .before .before .before .before .before .fetch .ensures) ∙ c .before .before .before .before .before .before .found .given .1) (sym (c .before .before .before .before .deliver-answer .ensures) ∙ c .before .before .before .if2 .left))
     (deliver-valid _ (c .before .before .before .before .before .before .before .before .before .before .before .before .pre) (a .obligation) (a .quantity))
 
 pub deliver-spec : {M : Type 1} → statement M

@@ -1,6 +1,6 @@
 -- `month` meets its contract.
 use mathlib.Core.Bool.{false}
-use mathlib.Core.Path.{sym, ap, subst, _∙_}
+use mathlib.Core.Path.{refl, sym, ap, subst, _∙_}
 use borrow.Author.Needs.{needs}
 use Rattle.book.proofs.Paid.{accounts-bounded, paid-valid}
 use Rattle.book.specs.Month.{month}
@@ -21,7 +21,7 @@ same-length c = search needs
 returns : tie.Need-returns
 unfolding month
 returns c = let e = c .before .before .before .settle-month .ensures in
-    (refused-with _ _ _ (doneRefused (c .before .before .before .before .before .before .before .before .before .args .self)) (sym (e .0)) (c .if1 .taken), (e .1, c .before .before .before .before .before .before .before .before .before .pre))
+    (refused-with _ _ _ (doneRefused (c .before .before .before .before .before .before .before .before .before .args .self)) (sym (e .0)) (c .if1 .taken), (e .1 .0, (c .before .before .before .before .before .before .before .before .before .pre, refl)))
 
 clear-requires : tie.Need-clear-requires
 clear-requires c κs = search needs
@@ -34,7 +34,7 @@ unfolding month
 returns-2 c = let e = c .before .before .before .before .settle-month .ensures in let b = c .before .before .before .before .before .before .before .before .before .before .args .self in
     let after : Ledger → Book = λ l. record { closed = b .closed; terms = b .terms; today = b .today; «close_since» = false; legs = b .legs; ledger = l } in (
       ap (λ (l : Ledger). record { answer = 0; book = after l }) (c .clear .ensures) ∙ done-by _ _ (doneRefused b) (sym (e .0) ∙ c .before .if1 .left),
-      (e .1, subst (λ (l : Ledger). Valid (after l)) (sym (c .clear .ensures)) (paid-valid b (c .before .before .before .before .before .before .before .before .before .before .pre))),
+      (e .1 .0, (subst (λ (l : Ledger). Valid (after l)) (sym (c .clear .ensures)) (paid-valid b (c .before .before .before .before .before .before .before .before .before .before .pre)), refl)),
     )
 
 pub month-spec : {M : Type 1} → statement M

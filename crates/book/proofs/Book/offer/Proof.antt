@@ -1,9 +1,8 @@
 -- `offer` meets its contract.
 use mathlib.Core.Path.{_≡_, refl, sym, ap, _∙_}
 use borrow.Author.Needs.{needs}
-use Rattle.ledger.specs.Ledger.{fetched}
 use Rattle.book.specs.Book.{withLedger, ageOf}
-use Rattle.book.specs.Buying.{offer, offerRefusals}
+use Rattle.book.specs.Buying.{offerDone, offer}
 use Rattle.refusals.specs.Calls.{offerRefusalsIn, offerRefusalsOf}
 use Rattle.book.specs.Instructing.{doneRefused}
 use Rattle.refusals.specs.Refusals.{answer}
@@ -12,9 +11,9 @@ use Rattle.calendar.specs.declared.ClearingDays.{ClearingDays}
 use Rattle.book.proofs.Answers.{answered}
 use Rattle.book.proofs.Book.offer.Statement.{statement}
 use Rattle.book.proofs.Kept.{offer-valid}
-use Rattle.refusals.proofs.Offering.{offer-some, input-price, offers-few}
-use Rattle.refusals.proofs.Refusals.{pass, stop, refused-by, refused-with, done-by, refused-ahead, passed-ahead}
-use Rattle.ledger.proofs.Valid.{There, found-there, absent-not, there-sound}
+use Rattle.refusals.proofs.Offering.{input-price, offers-few}
+use Rattle.refusals.proofs.Named.{input-refused, absent-refused, found-refused, found-done}
+use Rattle.ledger.proofs.Valid.{There, found-there, there-sound}
 use Rattle.book.proofs.Book.offer.Tie as tie
 
 there : (c : tie.After-found) → There (c .before .before .before .before .before .before .args .self .ledger) (c .before .before .before .before .before .before .args .obligation) (c .found .given .0 .0)
@@ -35,8 +34,8 @@ offer-answer-requires : tie.Need-offer-answer-requires
 offer-answer-requires c κs = search needs
 
 returns : tie.Need-returns
-unfolding offer offerRefusals fetched
-returns c = (refused-with _ _ _ (doneRefused _) (refused-ahead (offerRefusalsIn _ _ _) _ (c .before .offer-answer .result) (sym (c .before .offer-answer .ensures)) (c .if1 .taken)) (c .if1 .taken), c .before .before .pre)
+unfolding offer
+returns c = (input-refused _ _ _ (doneRefused _) _ _ (sym (c .before .offer-answer .ensures)) (c .if1 .taken), c .before .before .pre)
 
 fetch-requires : tie.Need-fetch-requires
 fetch-requires c κs = search needs
@@ -48,8 +47,8 @@ enum-told : tie.Need-enum-told
 enum-told c = search needs
 
 returns-2 : tie.Need-returns-2
-unfolding offer offerRefusals fetched
-returns-2 c = (refused-by 13 _ _ (doneRefused _) (passed-ahead (offerRefusalsIn _ _ _) _ (offer-some _ _ _) (sym (c .before .before .before .before .before .offer-answer .ensures) ∙ c .before .before .before .before .if1 .left) ∙ stop 13 _ (rw (absent-not _ _ (sym (c .before .before .fetch .ensures) ∙ c .enum-told .given .1)))) refl, c .before .before .before .before .before .before .pre)
+unfolding offer offerRefusalsIn
+returns-2 c = (absent-refused _ _ _ (doneRefused _) refl (sym (c .before .before .before .before .before .offer-answer .ensures) ∙ c .before .before .before .before .if1 .left) _ (sym (c .before .before .fetch .ensures) ∙ c .enum-told .given .1), c .before .before .before .before .before .before .pre)
 
 age-at-requires : tie.Need-age-at-requires
 age-at-requires c κs = search needs
@@ -58,18 +57,18 @@ offer-answer-of-requires : tie.Need-offer-answer-of-requires
 offer-answer-of-requires c κs = (input-price _ _ _ (sym (c .before .before .before .before .before .before .before .before .before .before .before .offer-answer .ensures) ∙ c .before .before .before .before .before .before .before .before .before .before .if1 .left), there-sound _ (c .before .before .before .before .before .before .before .before .before .before .before .before .pre .ledger-valid) _ _ (there (c .before .before .before .before .before .before)) .price-most)
 
 returns-3 : tie.Need-returns-3
-unfolding offer offerRefusals fetched
-returns-3 c = let t = there (c .before .before .before .before .before .before .before .before) in (refused-with _ _ _ (doneRefused _) (passed-ahead (offerRefusalsIn _ _ _) _ (offer-some _ _ _) (sym (c .before .before .before .before .before .before .before .before .before .before .before .before .before .offer-answer .ensures) ∙ c .before .before .before .before .before .before .before .before .before .before .before .before .if1 .left) ∙ pass 13 _ (rw (t .below)) ∙ rw (← t .same) (late (c .before))) (c .if2 .taken), c .before .before .before .before .before .before .before .before .before .before .before .before .before .before .pre)
+unfolding offer offerRefusalsIn
+returns-3 c = (found-refused _ _ _ (doneRefused _) refl (sym (c .before .before .before .before .before .before .before .before .before .before .before .before .before .offer-answer .ensures) ∙ c .before .before .before .before .before .before .before .before .before .before .before .before .if1 .left) _ _ _ (sym (c .before .before .before .before .before .before .before .before .before .before .fetch .ensures) ∙ c .before .before .before .before .before .before .before .before .found .given .1) (late (c .before)) (c .if2 .taken), c .before .before .before .before .before .before .before .before .before .before .before .before .before .before .pre)
 
 offer-requires : tie.Need-offer-requires
 offer-requires c κs = offers-few _ _ _ _ _ _ (sym (c .before .offer-answer-of .ensures) ∙ c .if2 .left)
 
 returns-4 : tie.Need-returns-4
-unfolding offer offerRefusals fetched
-returns-4 c = let t = there (c .before .before .before .before .before .before .before .before .before) in let a = c .before .before .before .before .before .before .before .before .before .before .before .before .before .before .before .args in
+unfolding offer offerRefusalsIn
+returns-4 c = let a = c .before .before .before .before .before .before .before .before .before .before .before .before .before .before .before .args in
     answered (λ (r : Done). r .book)
     ((λ i. record { answer = 0; book = withLedger (c .offer .ensures i) (a .self) })
-    ∙ done-by _ _ (doneRefused _) (passed-ahead (offerRefusalsIn _ _ _) _ (offer-some _ _ _) (sym (c .before .before .before .before .before .before .before .before .before .before .before .before .before .before .offer-answer .ensures) ∙ c .before .before .before .before .before .before .before .before .before .before .before .before .before .if1 .left) ∙ pass 13 _ (rw (t .below)) ∙ rw (← t .same) (late (c .before .before) ∙ c .before .if2 .left)))
+    ∙ found-done _ _ (λ o. offerDone (a .self) (a .obligation) (a .supplier) (a .quantity) (a .price)) (doneRefused _) refl (sym (c .before .before .before .before .before .before .before .before .before .before .before .before .before .before .offer-answer .ensures) ∙ c .before .before .before .before .before .before .before .before .before .before .before .before .before .if1 .left) _ _ (sym (c .before .before .before .before .before .before .before .before .before .before .before .fetch .ensures) ∙ c .before .before .before .before .before .before .before .before .before .found .given .1) (late (c .before .before) ∙ c .before .if2 .left))
     (offer-valid _ (c .before .before .before .before .before .before .before .before .before .before .before .before .before .before .before .pre) (a .obligation) (a .supplier) (a .quantity) (a .price))
 
 pub offer-spec : {M : Type 1} → statement M

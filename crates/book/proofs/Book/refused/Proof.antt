@@ -18,7 +18,7 @@ fresh-requires c κs = search needs
 
 returns : tie.Need-returns
 unfolding refusedBook
-returns c = c .fresh .ensures ∙ ap (λ (k : ClosedDays). freshBook (day 2) k 0) (c .before .listed .ensures)
+returns c = c .fresh .ensures ∙ ap (λ (k : ClosedDays). freshBook (day 2) k 0) (c .before .listed .ensures .0)
 
 pub refused-spec : {M : Type 1} → statement M
 refused-spec = tie.close (tie.spec slice-aggregate-listed listed-requires fresh-requires returns)

@@ -2,7 +2,7 @@
 use Prim.Native.Nat.{_-_, _≤_}
 use native.Mathlib.Omega.{arith}
 use mathlib.Core.List.{map}
-use mathlib.Core.Path.{_≡_}
+use mathlib.Core.Path.{_≡_, refl}
 use lib.ListN.{take}
 use borrow.Author.Needs.{needs}
 use Rattle.basics.specs.Lists.{padded}
@@ -42,7 +42,7 @@ loop-again : tie.Need-loop-again Inv-loop μ-loop
 loop-again c = (omega arith, stored-more (c .before .before .before .args .list .now) (c .before .before .loop .i) (c .before .before .loop .days) (c .before .before .before .pre) (c .before .loop-test .taken) (c .before .before .loop .inv .1))
 
 returns : tie.Need-returns Inv-loop μ-loop
-returns c = stored-all (c .before .before .args .list .now) (c .before .loop .i) (c .before .loop .days) (c .before .loop .inv .0) (c .loop-test .left) (c .before .loop .inv .1)
+returns c = (stored-all (c .before .before .args .list .now) (c .before .loop .i) (c .before .loop .days) (c .before .loop .inv .0) (c .loop-test .left) (c .before .loop .inv .1), refl)
 
 pub listed-spec : {M : Type 1} → statement M
 listed-spec =

@@ -1,5 +1,5 @@
--- `Offers::buy_in` meets its contract. The loop's invariant is `Passed`: what is bought so far, with what the offers to
--- come will give, is what all of them give. The measure is how many offers are to come.
+-- `Offers::buy_in` meets its contract. The loop's invariant is `Passed`: what was bought so far and what the offers to
+-- come will give are together what all offers give. The measure is the number of offers to come.
 use Prim.Native.Nat.{_-_}
 use mathlib.Core.Logic.{⊎-elim}
 use mathlib.Core.Path.{_≡_, refl}

@@ -1,5 +1,6 @@
--- `Offers::insert` meets its contract. The loop's invariant is `Carried`: the rows passed, with the offer that is
--- carried and the rows to come, are the list with the new offer at its place. The measure is how many rows are to come.
+-- `Offers::insert` meets its contract. The loop's invariant is `Carried`: the rows that were passed, the offer that is
+-- carried and the rows to come are together the list with the new offer at its place. The measure is the number of rows
+-- to come.
 use Prim.Native.Nat.{_+_, _-_}
 use mathlib.Core.List.{List}
 use mathlib.Core.Path.{_≡_, refl, ap}

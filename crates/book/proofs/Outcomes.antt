@@ -1,0 +1,79 @@
+-- What holds of a refused call and of one that is done holds of its outcome. The calls here go by the answer of a fetch or
+-- by the next clearing day, and one that is done has found what it asked for.
+use Prim.Native.Nat.{ℕ, _<_}
+use mathlib.Core.Path.{_≡_, refl, sym}
+use mathlib.Core.Bool.{false≢true}
+use mathlib.Core.List.{List}
+use lib.ListN.{length}
+use Rattle.calendar.specs.declared.Day.{Day}
+use Rattle.calendar.specs.declared.NextDay.{NextDay}
+use Rattle.calendar.specs.declared.NextDay.the-variants.{At, Never}
+use Rattle.instructions.specs.declared.FetchedLeg.the-variants.{Found}
+use Rattle.instructions.specs.Legs.{legAt}
+use Rattle.instructions.proofs.Fetching.{fetched-leg-case}
+use Rattle.ledger.specs.Ledger.{obligationAt}
+use Rattle.closing.specs.Lines.{written}
+use Rattle.refusals.specs.Refusals.{answer, outcome}
+use Rattle.refusals.specs.Calls.{cancelRefusalsIn, cancelRefusalsOf, deliverRefusalsIn, deliverRefusalsOf, offerRefusalsIn, closeRefusalsIn, closeRefusals}
+use Rattle.refusals.proofs.Refusals.{passed, by-number, by-number₂}
+use Rattle.refusals.proofs.Named.{fetch-case}
+use Rattle.refusals.proofs.Ending.{close-passed, never-refused}
+use Rattle.book.specs.declared.Book.{Book}
+use Rattle.book.specs.declared.Done.{Done}
+use Rattle.book.specs.declared.Cancelled.{Cancelled}
+use Rattle.book.specs.declared.Delivered.{Delivered}
+use Rattle.book.specs.declared.Closed.{Closed}
+use Rattle.book.specs.Instructing.{withdrawRefusals, doneRefused, withdrawDone, withdrawBy, withdraw, cancelRefused, cancelDone, cancel, deliverRefused, deliverDone, deliver}
+use Rattle.book.specs.Buying.{offerRefusalsFor, offerDone, offer}
+use Rattle.book.specs.Closing.{nextDay, linesOf, closeRefused, closeDone, closeBy, close, closeWords}
+
+module _ (b : Book) where
+  pub withdraw-case : (P : Done → Type 0) (n member : ℕ) → ((k : ℕ) → (k ≡ 0 → ⊥) → P (doneRefused b k)) →
+      (n < b .legs .count → P (withdrawDone b n)) → P (withdraw b n member)
+  unfolding withdraw withdrawBy withdrawRefusals
+  withdraw-case P n member f g =
+      fetched-leg-case (λ x. P (withdrawBy b n member x)) (b .legs) n
+      (f _ (λ e. false≢true (sym (passed _ _ _ (passed 1 _ _ e refl .1) refl .0))))
+      (λ h. by-number P (answer (withdrawRefusals (Found (legAt (b .legs) n)) member)) (withdrawDone b n) (doneRefused b) (f _) (λ e. g h))
+
+  pub cancel-case : (P : Cancelled → Type 0) (n member : ℕ) → ((k : ℕ) → (k ≡ 0 → ⊥) → P (cancelRefused b k)) →
+      (n < b .ledger .count → answer (cancelRefusalsOf (obligationAt (b .ledger) n) member) ≡ 0 → P (cancelDone b n member (obligationAt (b .ledger) n))) →
+      P (cancel b n member)
+  unfolding cancel
+  cancel-case P n member f g =
+      fetch-case (cancelRefusalsIn member) (λ o. cancelRefusalsOf o member) (cancelDone b n member) (cancelRefused b) P (b .ledger) n refl f
+      (λ h i e. g h e)
+
+  pub deliver-case : (P : Delivered → Type 0) (n q : ℕ) → ((k : ℕ) → (k ≡ 0 → ⊥) → P (deliverRefused b k)) →
+      (n < b .ledger .count → answer (deliverRefusalsOf (b .today) (obligationAt (b .ledger) n) q) ≡ 0 → P (deliverDone b n q (obligationAt (b .ledger) n))) →
+      P (deliver b n q)
+  unfolding deliver
+  deliver-case P n q f g =
+      fetch-case (deliverRefusalsIn q) (λ o. deliverRefusalsOf (b .today) o q) (deliverDone b n q) (deliverRefused b) P (b .ledger) n refl f
+      (λ h i e. g h e)
+
+  pub offer-case : (P : Done → Type 0) (n supplier q price : ℕ) → ((k : ℕ) → (k ≡ 0 → ⊥) → P (doneRefused b k)) →
+      (n < b .ledger .count → answer (offerRefusalsIn supplier q price) ≡ 0 → answer (offerRefusalsFor b price (obligationAt (b .ledger) n)) ≡ 0 →
+      P (offerDone b n supplier q price)) →
+      P (offer b n supplier q price)
+  unfolding offer offerRefusalsIn
+  offer-case P n supplier q price f g =
+      fetch-case (offerRefusalsIn supplier q price) (offerRefusalsFor b price) (λ o. offerDone b n supplier q price) (doneRefused b) P (b .ledger) n refl f g
+
+  -- a Close, and the words of its list
+  pub close-case : (P : Closed → List ℕ → Type 0) (price rate : ℕ) (ws : List ℕ) → ((k : ℕ) → (k ≡ 0 → ⊥) → P (closeRefused b k) ws) →
+      ((next : Day) → nextDay b ≡ At next → answer (closeRefusalsIn price rate (length ws)) ≡ 0 → P (closeDone b price rate next) (written (linesOf b price rate) ws)) →
+      P (close b price rate (length ws)) (closeWords b price rate ws)
+  unfolding close closeBy closeWords
+  close-case P price rate ws f g = by (nextDay b) refl
+    where
+      number : NextDay → ℕ
+      number t = answer (closeRefusals price rate (length ws) t)
+
+      by : (t : NextDay) → nextDay b ≡ t → P (closeBy b price rate (length ws) t) (outcome (number t) (written (linesOf b price rate) ws) (λ k. ws))
+      by Never q =
+          by-number (λ (us : List ℕ). P (closeRefused b (number Never)) us) (number Never) (written (linesOf b price rate) ws) (λ k. ws)
+          (λ z. f (number Never) z) (λ e. absurd (never-refused price rate (length ws) e))
+      by (At next) q =
+          by-number₂ P (number (At next)) (closeDone b price rate next) (closeRefused b) (written (linesOf b price rate) ws) (λ k. ws)
+          (λ z. f (number (At next)) z) (λ e. g next q (close-passed price rate (length ws) (At next) e))
