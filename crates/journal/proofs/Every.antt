@@ -1,19 +1,16 @@
 -- What every call moves, done or refused.
 use Prim.Native.Nat.{ℕ, _+_}
 use native.Mathlib.Omega.{arith}
-use mathlib.Core.Path.{_≡_, refl, sym, subst}
+use mathlib.Core.Path.{_≡_, refl}
 use mathlib.Core.Bool.{Bool, true, false}
 use mathlib.Core.List.{List}
 use mathlib.Core.Option.{none, some}
 use lib.Dec.{eqb}
 use lib.ListN.{length}
-use borrow.Author.Tests.{eqb-true, eqb-false, eq-eqb, ne-eqb}
-use Rattle.ledger.proofs.Valid.{present-below}
+use borrow.Author.Tests.{eqb-true, eq-eqb, ne-eqb}
 use Rattle.basics.specs.Choice.{pick}
 use Rattle.basics.proofs.Cases.{pick-case}
 use Rattle.calendar.specs.declared.Day.{Day}
-use Rattle.calendar.specs.declared.NextDay.{NextDay}
-use Rattle.calendar.specs.declared.NextDay.the-variants.{At, Never}
 use Rattle.instructions.specs.declared.Leg.{Leg}
 use Rattle.instructions.specs.declared.Fit.{Fit}
 use Rattle.instructions.specs.declared.Fit.the-variants.{With, Nobody}
@@ -24,9 +21,10 @@ use Rattle.ledger.specs.declared.Obligation.{Obligation}
 use Rattle.ledger.specs.Obligations.{noParts, newObligation, withWish, bothWish, cancelling, wishing, movedByWish, delivering as deliverFrom}
 use Rattle.ledger.specs.Ledger.{obligationAt}
 use Rattle.ledger.proofs.Keeping.{delivering-later, wishing-later}
-use Rattle.refusals.specs.Refusals.{answer, outcome as outcomeBy}
+use Rattle.refusals.specs.Refusals.{answer}
 use Rattle.refusals.specs.Calls.{enterRefusals}
-use Rattle.refusals.proofs.Refusals.{passed}
+use Rattle.refusals.proofs.Refusals.{by-number}
+use Rattle.refusals.proofs.Ending.{close-given}
 use Rattle.book.specs.declared.Book.{Book}
 use Rattle.book.specs.declared.Entered.{Entered}
 use Rattle.book.specs.declared.Done.{Done}
@@ -34,17 +32,14 @@ use Rattle.book.specs.declared.Cancelled.{Cancelled}
 use Rattle.book.specs.declared.Delivered.{Delivered}
 use Rattle.book.specs.declared.Closed.{Closed}
 use Rattle.book.specs.Book.{Valid}
-use Rattle.book.specs.Instructing.{newLeg, obligationOf, enteredAlone, enteredWith, enteredBy, enterRefused, withdrawRefusals, doneRefused, cancelRefusals, cancelRefused, deliverRefusals, deliverRefused}
+use Rattle.book.specs.Instructing.{newLeg, obligationOf, enteredAlone, enteredWith, enteredBy, enterRefused, doneRefused}
 use Rattle.book.specs.Instructing as rules
-use Rattle.book.specs.Buying.{offerRefusals}
-use Rattle.book.specs.Buying as buying
-use Rattle.book.specs.Closing.{nextDay, dayOf, linesOf, closedBook, closeRefused, closeNumber}
-use Rattle.book.specs.Closing as closing
+use Rattle.book.specs.Closing.{linesOf}
 use Rattle.book.specs.Month.{monthAnswer}
 use Rattle.book.specs.Month as month-rules
 use Rattle.book.proofs.Kept.{enter-valid, withdraw-valid, cancel-valid, deliver-valid, offer-valid, Good, good, matched-room}
 use Rattle.book.proofs.Refused.{entered-zero}
-use Rattle.book.proofs.Ended.{number-given, never-number}
+use Rattle.book.proofs.Outcomes.{withdraw-case, cancel-case, deliver-case, offer-case, close-case}
 use Rattle.journal.specs.Calls.{Call, enter, withdraw, cancel, deliver, offer, close, month}
 use Rattle.journal.specs.Played.{outcome, eventOf}
 use Rattle.journal.specs.Effects.{dealOf, Effect, quiet, onlyInstructs, onlyReports, onlyCollects, effect, linesRead}
@@ -52,24 +47,6 @@ use Rattle.journal.proofs.Moves.{dealAt, Shift, Moves}
 use Rattle.journal.proofs.Steps.{shift-none, moves-nothing, onlyParts, moves-one, moves-more}
 use Rattle.journal.proofs.Reported.{lines-back}
 use Rattle.journal.proofs.Turns.{moves-close, moves-month}
-
--- a call by its answer number: what holds of a refused call and of one that is done
-pub by-number : {A : Type 0} (P : A → Type 0) (n : ℕ) (done : A) (refused : ℕ → A) →
-    ((n ≡ 0 → ⊥) → P (refused n)) → (n ≡ 0 → P done) → P (outcomeBy n done refused)
-by-number P n done refused f g = by (eqb n 0) refl
-  where
-    by : (t : Bool) → eqb n 0 ≡ t → P (pick t done (refused n))
-    by true e = g (eqb-true n 0 e)
-    by false e = f (eqb-false n 0 e)
-
--- so too of two things that go by the same number
-pub by-number₂ : {A B : Type 0} (P : A → B → Type 0) (n : ℕ) (done : A) (refused : ℕ → A) (done' : B) (refused' : ℕ → B) →
-    ((n ≡ 0 → ⊥) → P (refused n) (refused' n)) → (n ≡ 0 → P done done') → P (outcomeBy n done refused) (outcomeBy n done' refused')
-by-number₂ P n done refused done' refused' f g = by (eqb n 0) refl
-  where
-    by : (t : Bool) → eqb n 0 ≡ t → P (pick t done (refused n)) (pick t done' (refused' n))
-    by true e = g (eqb-true n 0 e)
-    by false e = f (eqb-false n 0 e)
 
 -- ---- what a wish and a delivery move between the parts
 -- a wish that is only recorded moves nothing
@@ -97,20 +74,17 @@ module _ (b : Book) (v : Valid b) where
 
   -- ---- Withdraw and Offer
   withdraw-moves : (leg member : ℕ) → Moves b (outcome b (withdraw leg member) .book) (effect (eventOf b (withdraw leg member)))
-  unfolding rules.withdraw
   withdraw-moves leg member =
-      by-number (λ (x : Done). Valid (x .book) → Moves b (x .book) (pick (eqb (x .answer) 0) quiet quiet)) (answer (withdrawRefusals b leg member)) _ (doneRefused b)
-      (λ z w. refused-moves (answer (withdrawRefusals b leg member)) quiet z)
-      (λ e w. moves-nothing b _ w refl refl refl refl refl refl)
+      withdraw-case b (λ (x : Done). Valid (x .book) → Moves b (x .book) (pick (eqb (x .answer) 0) quiet quiet)) leg member
+      (λ i z w. refused-moves i quiet z)
+      (λ h w. moves-nothing b _ w refl refl refl refl refl refl)
       (withdraw-valid b v leg member)
 
   offer-moves : (n supplier q price : ℕ) → Moves b (outcome b (offer n supplier q price) .book) (effect (eventOf b (offer n supplier q price)))
-  unfolding buying.offer
   offer-moves n supplier q price =
-      let rs = offerRefusals b n supplier q price (obligationAt (b .ledger) n) in
-      by-number (λ (x : Done). Valid (x .book) → Moves b (x .book) (pick (eqb (x .answer) 0) quiet quiet)) (answer rs) _ (doneRefused b)
-      (λ z w. refused-moves (answer rs) quiet z)
-      (λ e w. moves-nothing b _ w refl refl refl refl refl refl)
+      offer-case b (λ (x : Done). Valid (x .book) → Moves b (x .book) (pick (eqb (x .answer) 0) quiet quiet)) n supplier q price
+      (λ i z w. refused-moves i quiet z)
+      (λ h e f w. moves-nothing b _ w refl refl refl refl refl refl)
       (offer-valid b v n supplier q price)
 
   -- ---- Deliver and Cancel
@@ -125,28 +99,23 @@ module _ (b : Book) (v : Valid b) where
   alone-other n q k z = rw (ne-eqb k n z)
 
   deliver-moves : (n q : ℕ) → Moves b (outcome b (deliver n q) .book) (effect (eventOf b (deliver n q)))
-  unfolding rules.deliver deliverRefusals deliverFrom
+  unfolding deliverFrom
   deliver-moves n q =
+      deliver-case b (λ (x : Delivered). Valid (x .book) → Moves b (x .book) (pick (eqb (x .answer) 0) (onlyParts (alone n q) (λ k. 0)) quiet)) n q
+      (λ i z w. refused-moves i (onlyParts (alone n q) (λ k. 0)) z)
+      (λ h e w.
       let o = obligationAt (b .ledger) n in
-      let rs = deliverRefusals b n q o in
-      by-number (λ (x : Delivered). Valid (x .book) → Moves b (x .book) (pick (eqb (x .answer) 0) (onlyParts (alone n q) (λ k. 0)) quiet)) (answer rs) _ (deliverRefused b)
-      (λ z w. refused-moves (answer rs) (onlyParts (alone n q) (λ k. 0)) z)
-      (λ e w.
-      let h = present-below (b .ledger) n (passed 13 _ _ (passed 2 _ _ e refl .1) refl .0) in
       moves-one b v n (deliverFrom q o) h (alone n q) (λ k. 0) (delivering-later o q)
       (rw (alone-own n q) (record { delivered = omega arith; bought-in = omega arith; compensated = omega arith; cancelled = omega arith }))
       (λ k z. (alone-other n q k z, refl)) w)
       (deliver-valid b v n q)
 
   cancel-moves : (n member : ℕ) → Moves b (outcome b (cancel n member) .book) (effect (eventOf b (cancel n member)))
-  unfolding rules.cancel cancelRefusals
   cancel-moves n member =
+      cancel-case b (λ (x : Cancelled). Valid (x .book) → Moves b (x .book) (pick (eqb (x .answer) 0) (onlyParts (λ k. 0) (alone n (x .moved))) quiet)) n member
+      (λ i z w. refused-moves i (onlyParts (λ k. 0) (alone n 0)) z)
+      (λ h e w.
       let o = obligationAt (b .ledger) n in
-      let rs = cancelRefusals b n member o in
-      by-number (λ (x : Cancelled). Valid (x .book) → Moves b (x .book) (pick (eqb (x .answer) 0) (onlyParts (λ k. 0) (alone n (x .moved))) quiet)) (answer rs) _ (cancelRefused b)
-      (λ z w. refused-moves (answer rs) (onlyParts (λ k. 0) (alone n 0)) z)
-      (λ e w.
-      let h = present-below (b .ledger) n (passed 13 _ _ (passed 1 _ _ e refl .1) refl .0) in
       moves-one b v n (wishing member o) h (λ k. 0) (alone n (movedByWish member o)) (wishing-later o member)
       (rw (alone-own n (movedByWish member o)) (wish-shift o member))
       (λ k z. (refl, alone-other n (movedByWish member o) k z)) w)
@@ -201,20 +170,12 @@ module _ (b : Book) (v : Valid b) where
 
   -- ---- Close and Month
   close-moves : (price rate : ℕ) (ws : List ℕ) → Moves b (outcome b (close price rate ws) .book) (effect (eventOf b (close price rate ws)))
-  unfolding closing.close closing.closeWords
   close-moves price rate ws =
-      let n = closeNumber b price rate (length ws) in
-      by-number₂ (λ (x : Closed) (us : List ℕ). Moves b (x .book) (pick (eqb (x .answer) 0) (onlyReports (linesRead (x .count) us)) quiet)) n _ (closeRefused b) _ (λ k. ws)
-      (λ z. refused-moves n (onlyReports (linesRead 0 ws)) z)
-      (λ e.
-      rw (lines-back (linesOf b price rate) ws) (by (nextDay b) refl e))
-    where
-      by : (t : NextDay) → nextDay b ≡ t → closeNumber b price rate (length ws) ≡ 0 → Moves b (closedBook b price rate (dayOf (nextDay b))) (onlyReports (linesOf b price rate))
-      by Never q e = absurd (never-number b price rate ws q e)
-      by (At next) q e =
-          let g = number-given b price rate ws e in
-          subst (λ (t : NextDay). Moves b (closedBook b price rate (dayOf t)) (onlyReports (linesOf b price rate))) (sym q)
-          (moves-close b v price rate (g .price-most) (g .rate-most) next q)
+      close-case b (λ (x : Closed) (us : List ℕ). Moves b (x .book) (pick (eqb (x .answer) 0) (onlyReports (linesRead (x .count) us)) quiet)) price rate ws
+      (λ i z. refused-moves i (onlyReports (linesRead 0 ws)) z)
+      (λ next q e.
+      let g = close-given price rate (length ws) e in
+      rw (lines-back (linesOf b price rate) ws) (moves-close b v price rate (g .price-most) (g .rate-most) next q))
 
   month-moves : (cs ps : List ℕ) → Moves b (outcome b (month cs ps) .book) (effect (eventOf b (month cs ps)))
   unfolding month-rules.month

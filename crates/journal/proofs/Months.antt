@@ -16,7 +16,7 @@ use Rattle.netting.proofs.Debts.{claims-listed, claims-length}
 use Rattle.netting.proofs.Shared.{shares-total, shares-floor, shares-most}
 use Rattle.payments.specs.Month.{badLists, overCollected, monthRefusals, payoutsOf, paidOut}
 use Rattle.payments.proofs.Collected.{good-lists, collected-shareable}
-use Rattle.refusals.proofs.Refusals.{passed}
+use Rattle.refusals.proofs.Refusals.{passed, by-number₂}
 use Rattle.book.specs.declared.Book.{Book}
 use Rattle.book.specs.declared.Done.{Done}
 use Rattle.book.specs.Instructing.{doneRefused}
@@ -29,7 +29,6 @@ use Rattle.journal.specs.Effects.{quiet, effectOf, effect, onlyCollects}
 use Rattle.journal.specs.Sums.{isMonth, accountIn, claimsIn}
 use Rattle.journal.specs.Promise.{MonthPays}
 use Rattle.journal.proofs.Moves.{Agrees}
-use Rattle.journal.proofs.Every.{by-number₂}
 
 -- the claims of the events are those of the accounts
 claims-agree : (o : Opening) (b : Book) (es : List Event) → Agrees o b es → claimsIn es ≡ claims (b .ledger .accounts)

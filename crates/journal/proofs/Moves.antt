@@ -9,7 +9,7 @@ use mathlib.Core.Option.{Option, none, some}
 use lib.Dec.{ltb}
 use lib.IntN.{ℤ, pos, _+ℤ_}
 use lib.ListN.{getD}
-use borrow.Author.Tests.{ltb-true, eqb-true}
+use borrow.Author.Tests.{ltb-true, lt-ltb, eqb-true}
 use Rattle.basics.specs.Choice.{pick}
 use Rattle.basics.specs.Lists.{total}
 use Rattle.basics.proofs.Cases.{and-true}
@@ -21,12 +21,12 @@ use Rattle.ledger.specs.declared.Parts.{Parts}
 use Rattle.ledger.specs.declared.Obligation.{Obligation}
 use Rattle.ledger.specs.Obligations.{noParts}
 use Rattle.ledger.specs.Ledger.{obligationAt}
+use Rattle.ledger.proofs.Keeping.{parts-whole}
 use Rattle.book.specs.declared.Book.{Book}
 use Rattle.book.specs.Book.{ageOf, Valid}
-use Rattle.book.specs.Closing.{dayOf}
 use Rattle.journal.specs.Calls.{Opening, Event}
 use Rattle.journal.specs.Effects.{Deal, Effect, effect}
-use Rattle.journal.specs.Sums.{closedIn, termsIn, todayIn, orElse, dealIn, deliveredIn, cancelledIn, quantityOf, reportedIn, penaltiesOf, isMonth, accountIn, isLastDay, lastClosedIn}
+use Rattle.journal.specs.Sums.{closedIn, termsIn, movedOn, todayIn, orElse, dealIn, deliveredIn, cancelledIn, outstandingIn, quantityOf, reportedIn, penaltiesOf, isMonth, accountIn, isLastDay, lastClosedIn}
 
 -- ---- what a book holds
 abbrev pub dealAt : Obligation → Deal
@@ -37,6 +37,30 @@ heldDeal b n = pick (ltb n (b .ledger .count)) (some (dealAt (obligationAt (b .l
 
 abbrev pub heldParts : Book → ℕ → Parts
 heldParts b n = pick (ltb n (b .ledger .count)) (obligationAt (b .ledger) n .parts) noParts
+
+-- an obligation is held, as it was instructed
+pub record Held (b : Book) (n : ℕ) (i : Deal) : Type 0 where
+  pub below : n < b .ledger .count
+  pub same : dealAt (obligationAt (b .ledger) n) ≡ i
+
+dealOr : Deal → Option Deal → Deal
+dealOr d none = d
+dealOr d (some i) = i
+
+pub held : (b : Book) (n : ℕ) (i : Deal) → heldDeal b n ≡ some i → Held b n i
+unfolding dealOr
+held b n i e = by (ltb n (b .ledger .count)) refl e
+  where
+    by : (t : Bool) → ltb n (b .ledger .count) ≡ t → pick t (some (dealAt (obligationAt (b .ledger) n))) none ≡ some i → Held b n i
+    by true h q = record { below = ltb-true n (b .ledger .count) h; same = ap (dealOr i) q }
+    by false h q = absurd (none-some q)
+      where
+        isSome : Option Deal → Bool
+        isSome none = false
+        isSome (some d) = true
+
+        none-some : none ≡ some i → ⊥
+        none-some z = false≢true (ap isSome z)
 
 -- what moves between the parts of one obligation
 pub record Shift (p q : Parts) (delivers buys compensates cancels : ℕ) : Type 0 where
@@ -50,7 +74,7 @@ pub record Moves (b after : Book) (f : Effect) : Type 0 where
   pub valid : Valid after
   pub closed : after .closed ≡ b .closed
   pub terms : after .terms ≡ b .terms
-  pub today : after .today ≡ pick (f .turns) (dayOf (nextAfter (listed (b .closed)) (b .today))) (b .today)
+  pub today : after .today ≡ pick (f .turns) (movedOn (nextAfter (listed (b .closed)) (b .today)) (b .today)) (b .today)
   pub deals : (n : ℕ) → heldDeal after n ≡ orElse (f .instructs n) (heldDeal b n)
   pub parts : (n : ℕ) → Shift (heldParts b n) (heldParts after n) (f .delivers n) (total (quantityOf 3 n) (f .lines)) (total (quantityOf 4 n) (f .lines)) (f .cancels n)
   pub kept : b .ledger .count ≤ after .ledger .count
@@ -72,6 +96,24 @@ pub record Agrees (o : Opening) (b : Book) (es : List Event) : Type 0 where
   pub cancelled : (n : ℕ) → cancelledIn n es ≡ heldParts b n .cancelled
   pub accounts : (m : ℕ) → accountIn m es ≡ getD (b .ledger .accounts) m (pos 0)
   pub last : (n : ℕ) → lastClosedIn o n es ≡ true → (n < b .ledger .count) × (heldParts b n .outstanding ≡ 0)
+
+-- what the events tell of the quantity that is outstanding
+pub outstanding-is : (o : Opening) (b : Book) (es : List Event) → Agrees o b es → (n : ℕ) (i : Deal) → dealIn n es ≡ some i →
+    outstandingIn n i es ≡ obligationAt (b .ledger) n .parts .outstanding
+unfolding outstandingIn
+outstanding-is o b es g n i e =
+    let h = held b n i (sym (g .deals n) ∙ e) in
+    let p = obligationAt (b .ledger) n in
+    let parts : heldParts b n ≡ p .parts = rw (lt-ltb n (b .ledger .count) (h .below)) in
+    omega (
+      arith,
+      g .delivered n ∙ ap (λ (x : Parts). x .delivered) parts,
+      g .bought-in n ∙ ap (λ (x : Parts). x .«bought_in») parts,
+      g .compensated n ∙ ap (λ (x : Parts). x .compensated) parts,
+      g .cancelled n ∙ ap (λ (x : Parts). x .cancelled) parts,
+      ap (λ (d : Deal). d .quantity) (h .same),
+      parts-whole p (g .valid .ledger-valid .sound n (h .below)),
+    )
 
 or-true : (a c : Bool) → (a || c) ≡ true → (a ≡ true) ⊎ (c ≡ true)
 or-true true c e = inl refl
@@ -109,7 +151,7 @@ module _ (o : Opening) (b after : Book) (es : List Event) (e : Event) (g : Agree
     valid = m .valid;
     closed = m .closed ∙ g .closed;
     terms = m .terms ∙ g .terms;
-    today = m .today ∙ ap₂ (λ (c : ClosedDays) (d : Day). pick (effect e .turns) (dayOf (nextAfter (listed c) d)) d) (g .closed) (g .today);
+    today = m .today ∙ ap₂ (λ (c : ClosedDays) (d : Day). pick (effect e .turns) (movedOn (nextAfter (listed c) d) d) d) (g .closed) (g .today);
     deals = λ n. ap (orElse (effect e .instructs n)) (g .deals n) ∙ sym (m .deals n);
     delivered = λ n. ap (λ (x : ℕ). effect e .delivers n + x) (g .delivered n) ∙ sym (m .parts n .delivered);
     bought-in = λ n. ap (λ (x : ℕ). total (quantityOf 3 n) (effect e .lines) + x) (g .bought-in n) ∙ sym (m .parts n .bought-in);

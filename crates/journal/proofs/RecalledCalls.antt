@@ -7,9 +7,7 @@ use mathlib.Core.List.{List, [], _∷_, _++_}
 use lib.Dec.{eqb}
 use lib.ListN.{length, getD, set}
 use lib.Seq.{getD-take, length-take-le}
-use borrow.Author.Tests.{ne-eqb, leb-false, not-false}
-use Rattle.ledger.proofs.Valid.{present-below}
-use Rattle.instructions.proofs.Fetching.{waiting-below}
+use borrow.Author.Tests.{ne-eqb, not-false}
 use Rattle.basics.specs.Choice.{pick}
 use Rattle.basics.proofs.Cases.{or-false}
 use Rattle.calendar.specs.declared.Day.{Day}
@@ -29,8 +27,10 @@ use Rattle.instructions.proofs.Matching.{found-below}
 use Rattle.ledger.specs.Obligations.{delivering as deliverFrom}
 use Rattle.ledger.specs.Ledger.{obligationAt}
 use Rattle.refusals.specs.Refusals.{answer}
-use Rattle.refusals.specs.Calls.{enterRefusals, cancelRefusalsOf, offerRefusalsIn, offerRefusalsOf}
-use Rattle.refusals.proofs.Refusals.{passed}
+use Rattle.refusals.specs.Calls.{enterRefusals, cancelRefusalsOf}
+use Rattle.refusals.proofs.Refusals.{passed, by-number}
+use Rattle.refusals.proofs.Offering.{offers-few}
+use Rattle.refusals.proofs.Ending.{close-given}
 use Rattle.book.specs.declared.Book.{Book}
 use Rattle.book.specs.declared.Entered.{Entered}
 use Rattle.book.specs.declared.Done.{Done}
@@ -38,22 +38,17 @@ use Rattle.book.specs.declared.Cancelled.{Cancelled}
 use Rattle.book.specs.declared.Delivered.{Delivered}
 use Rattle.book.specs.declared.Closed.{Closed}
 use Rattle.book.specs.Book.{Valid}
-use Rattle.book.specs.Instructing.{newLeg, obligationOf, enteredAlone, enteredWith, enteredBy, enterRefused, withdrawRefusals, doneRefused, cancelRefusals, cancelRefused, deliverRefusals, deliverRefused}
+use Rattle.book.specs.Instructing.{newLeg, obligationOf, enteredAlone, enteredWith, enteredBy, enterRefused, doneRefused}
 use Rattle.book.specs.Instructing as rules
-use Rattle.book.specs.Buying.{offerRefusals}
-use Rattle.book.specs.Buying as buying
-use Rattle.book.specs.Closing.{nextDay, dayOf, closeRefused, closeNumber}
-use Rattle.book.specs.Closing as closing
 use Rattle.book.specs.Month.{monthBook, monthAnswer}
 use Rattle.book.specs.Month as month-rules
 use Rattle.book.proofs.Kept.{Good, good, matched-room}
-use Rattle.book.proofs.Ended.{number-given}
+use Rattle.book.proofs.Outcomes.{withdraw-case, cancel-case, deliver-case, offer-case, close-case}
 use Rattle.journal.specs.Calls.{Call, enter, withdraw, cancel, deliver, offer, close, month}
 use Rattle.journal.specs.Played.{outcome, eventOf}
 use Rattle.journal.specs.Effects.{Effect, quiet, effectOf, effect}
 use Rattle.journal.specs.Sums.{isMonth}
 use Rattle.journal.specs.History.{Trace, noTrace, traceOf, trace, legIntoState, legsAfter}
-use Rattle.journal.proofs.Every.{by-number}
 use Rattle.journal.proofs.RecalledLegs.{Proper}
 use Rattle.journal.proofs.RecalledRows.{RowsLeft, rows-same, rows-one, rows-wished, rows-more}
 use Rattle.journal.proofs.RecalledCloses.{rows-closed}
@@ -95,13 +90,10 @@ module _ (b : Book) (v : Valid b) where
       entered-state (b .legs) (v .legs-valid) k h state ∙ ap (λ (l : Leg). set ls k (inState state l)) (sym (entered-at k h))
 
   withdraw-leaves : (leg member : ℕ) → CallLeaves (withdraw leg member)
-  unfolding rules.withdraw withdrawRefusals
   withdraw-leaves leg member =
-      let n = answer (withdrawRefusals b leg member) in
-      by-number (λ (x : Done). Left (x .book) (withdraw leg member) (x .answer) [] []) n _ (doneRefused b)
-      (refused-leaves (withdraw leg member) n [] [])
-      (λ e.
-      let h = waiting-below (b .legs) leg (passed 13 _ _ (passed 1 _ _ e refl .1) refl .0) in
+      withdraw-case b (λ (x : Done). Left (x .book) (withdraw leg member) (x .answer) [] []) leg member
+      (λ i. refused-leaves (withdraw leg member) i [] [])
+      (λ h.
       record {
         close-since = refl;
         rows = rows-same b _ refl refl;
@@ -149,33 +141,26 @@ module _ (b : Book) (v : Valid b) where
 
   -- ---- Deliver and Cancel
   deliver-leaves : (k q : ℕ) → CallLeaves (deliver k q)
-  unfolding rules.deliver deliverRefusals deliverFrom
+  unfolding deliverFrom
   deliver-leaves k q =
-      let o = obligationAt (b .ledger) k in
-      let n = answer (deliverRefusals b k q o) in
-      by-number (λ (x : Delivered). Left (x .book) (deliver k q) (x .answer) (x .cash ∷ []) []) n _ (deliverRefused b)
-      (refused-leaves (deliver k q) n (0 ∷ []) [])
-      (λ e.
-      let h = present-below (b .ledger) k (passed 13 _ _ (passed 2 _ _ e refl .1) refl .0) in
+      deliver-case b (λ (x : Delivered). Left (x .book) (deliver k q) (x .answer) (x .cash ∷ []) []) k q
+      (λ i. refused-leaves (deliver k q) i (0 ∷ []) [])
+      (λ h e.
       record {
         close-since = refl;
-        rows = rows-one b v k (deliverFrom q o) h (λ i m. false) refl (λ m. refl) (λ i m z. refl);
+        rows = rows-one b v k (deliverFrom q (obligationAt (b .ledger) k)) h (λ i m. false) refl (λ m. refl) (λ i m z. refl);
         offers = λ xs p. p;
         legs = refl;
         proper = tt;
       })
 
   cancel-leaves : (k member : ℕ) → CallLeaves (cancel k member)
-  unfolding rules.cancel cancelRefusals cancelRefusalsOf
+  unfolding cancelRefusalsOf
   cancel-leaves k member =
-      let o = obligationAt (b .ledger) k in
-      let n = answer (cancelRefusals b k member o) in
-      by-number (λ (x : Cancelled). Left (x .book) (cancel k member) (x .answer) (x .moved ∷ []) []) n _ (cancelRefused b)
-      (refused-leaves (cancel k member) n (0 ∷ []) [])
-      (λ e.
-      let p13 = passed 13 _ _ (passed 1 _ _ e refl .1) refl in
-      let h = present-below (b .ledger) k (p13 .0) in
-      let party = not-false _ (or-false (passed 14 _ _ (p13 .1) refl .0) .0) in
+      cancel-case b (λ (x : Cancelled). Left (x .book) (cancel k member) (x .answer) (x .moved ∷ []) []) k member
+      (λ i. refused-leaves (cancel k member) i (0 ∷ []) [])
+      (λ h e.
+      let party = not-false _ (or-false (passed 14 _ _ e refl .0) .0) in
       record {
         close-since = refl;
         rows = rows-wished b v k member h party;
@@ -186,35 +171,27 @@ module _ (b : Book) (v : Valid b) where
 
   -- ---- Offer, Close and Month
   offer-leaves : (k supplier q price : ℕ) → CallLeaves (offer k supplier q price)
-  unfolding buying.offer offerRefusals offerRefusalsIn offerRefusalsOf
   offer-leaves k supplier q price =
-      let n = answer (offerRefusals b k supplier q price (obligationAt (b .ledger) k)) in
-      by-number (λ (x : Done). Left (x .book) (offer k supplier q price) (x .answer) [] []) n _ (doneRefused b)
-      (refused-leaves (offer k supplier q price) n [] [])
-      (λ e.
-      let p13 = passed 13 _ _ (passed 3 _ _ (passed 2 _ _ (passed 1 _ _ e refl .1) refl .1) refl .1) refl in
-      let p17 = passed 17 _ _ (passed 16 _ _ (passed 15 _ _ (p13 .1) refl .1) refl .1) refl in
-      let room = leb-false 64 (b .ledger .offers .count) (p17 .0) in
+      offer-case b (λ (x : Done). Left (x .book) (offer k supplier q price) (x .answer) [] []) k supplier q price
+      (λ i. refused-leaves (offer k supplier q price) i [] [])
+      (λ h e f.
       record {
         close-since = refl;
         rows = rows-same b _ refl refl;
-        offers = λ xs p. ranked-with (b .ledger .offers) _ room (v .ledger-valid .offers-size) xs p;
+        offers = λ xs p. ranked-with (b .ledger .offers) _ (offers-few _ _ _ _ _ _ f) (v .ledger-valid .offers-size) xs p;
         legs = refl;
         proper = tt;
       })
 
   close-leaves : (price rate : ℕ) (ws : List ℕ) → CallLeaves (close price rate ws)
-  unfolding closing.close
   close-leaves price rate ws =
-      let n = closeNumber b price rate (length ws) in
-      let us = closing.closeWords b price rate ws in
-      by-number (λ (x : Closed). Left (x .book) (close price rate ws) (x .answer) (x .count ∷ []) us) n _ (closeRefused b)
-      (refused-leaves (close price rate ws) n (0 ∷ []) us)
-      (λ e.
-      let g = number-given b price rate ws e in
+      close-case b (λ (x : Closed) (us : List ℕ). Left (x .book) (close price rate ws) (x .answer) (x .count ∷ []) us) price rate ws
+      (λ i. refused-leaves (close price rate ws) i (0 ∷ []) ws)
+      (λ next q e.
+      let g = close-given price rate (length ws) e in
       record {
         close-since = refl;
-        rows = rows-closed b v price rate (g .price-most) (g .rate-most) (dayOf (nextDay b));
+        rows = rows-closed b v price rate (g .price-most) (g .rate-most) next;
         offers = λ xs p. listed-none;
         legs = refl;
         proper = tt;

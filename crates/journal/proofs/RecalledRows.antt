@@ -19,11 +19,11 @@ use Rattle.book.specs.Book.{withLegs, withLedger, ageOf, Valid}
 abbrev pub held : {A : Type 0} → (Obligation → A) → A → Book → ℕ → A
 held g z b n = pick (ltb n (b .ledger .count)) (g (obligationAt (b .ledger) n)) z
 
--- 01, Buy-in, the cap: the price that is kept
+-- B9, Buy-in: the price for the cap that is stored
 abbrev pub heldPrice : Book → ℕ → ℕ
 heldPrice = held (λ o. o .«grace_price») 0
 
--- 01, Cancel: the wish of a member that is recorded; who is no party has none
+-- K1, Cancel: whether the wish of a member is recorded; a member that is no party has none
 abbrev pub wishOf : ℕ → Obligation → Bool
 wishOf m o = pick (eqb (o .seller) m) (o .«seller_wish») (pick (eqb (o .buyer) m) (o .«buyer_wish») false)
 

@@ -1,10 +1,11 @@
 -- The lines of a Close: what they say of an obligation is what the Close moves of it.
 use Prim.Native.Nat.{ℕ, zero, suc, _+_, _≤_, _<_}
 use native.Mathlib.Omega.{arith}
+use native.Mathlib.Nat.{zero-add}
 use mathlib.Core.Path.{_≡_, refl, sym, ap, _∙_}
 use mathlib.Core.Bool.{Bool, true, false, _&&_}
 use mathlib.Core.Logic.{⊎-elim}
-use mathlib.Core.List.{List, [], _∷_, _++_}
+use mathlib.Core.List.{List, [], _∷_, _++_, append-nil}
 use lib.Dec.{eqb}
 use lib.ListN.{length, getD, drop}
 use borrow.Author.Tests.{eq-eqb, ne-eqb}
@@ -13,7 +14,7 @@ use Rattle.basics.specs.Lists.{total, Every}
 use Rattle.basics.specs.Lists.Every.{nobody, also}
 use Rattle.basics.proofs.Cases.{pick-case, last-or-below}
 use Rattle.basics.proofs.Everywhere.{every-map, every-append}
-use Rattle.basics.proofs.Sums.{total-append, total-none}
+use Rattle.basics.proofs.Sums.{total-append}
 use Rattle.calendar.specs.Days.{ageAt}
 use Rattle.offers.specs.declared.Offer.{Offer}
 use Rattle.offers.specs.declared.Given.{Given}
@@ -31,15 +32,57 @@ use Rattle.closing.proofs.Parts.{priced-parts}
 use Rattle.journal.specs.Effects.{linesRead}
 use Rattle.calendar.specs.Closed.{listed as closedListed}
 use Rattle.journal.specs.Sums.{quantityOf}
+use Rattle.journal.specs.Promise.{Purchase, purchasesIn}
 
--- a line of another obligation counts for nothing
-other-none : (kind k : ℕ) (l : Line) → (l .obligation ≡ k → ⊥) → quantityOf kind k l ≡ 0
-unfolding quantityOf
-other-none kind k l h = rw (ne-eqb (l .obligation) k h) (by (eqb (l .kind) kind))
+-- ---- the lines of one obligation
+-- the lines of obligation k among these
+abbrev own : ℕ → List Line → List Line
+own k [] = []
+own k (l ∷ ls) = pick (eqb (l .obligation) k) (l ∷ own k ls) (own k ls)
+
+own-append : (k : ℕ) (xs ys : List Line) → own k (xs ++ ys) ≡ own k xs ++ own k ys
+own-append k [] ys = refl
+own-append k (l ∷ xs) ys = rw (own-append k xs ys) (by (eqb (l .obligation) k))
   where
-    by : (t : Bool) → pick (t && false) (l .quantity) 0 ≡ 0
+    by : (t : Bool) → pick t (l ∷ (own k xs ++ own k ys)) (own k xs ++ own k ys) ≡ pick t (l ∷ own k xs) (own k xs) ++ own k ys
     by true = refl
     by false = refl
+
+own-all : (k : ℕ) {ls : List Line} → Every (λ l. l .obligation ≡ k) ls → own k ls ≡ ls
+own-all k nobody = refl
+own-all k (also {x} {xs} e es) = rw (eq-eqb (x .obligation) k e) (ap (λ (ls : List Line). x ∷ ls) (own-all k es))
+
+own-none : (k n : ℕ) → (n ≡ k → ⊥) → {ls : List Line} → Every (λ l. l .obligation ≡ n) ls → own k ls ≡ []
+own-none k n h nobody = refl
+own-none k n h (also {x} {xs} e es) = rw (ne-eqb (x .obligation) k (λ z. h (sym e ∙ z))) (own-none k n h es)
+
+-- what these lines say of obligation k its own lines say
+and-none : (t : Bool) → (t && false) ≡ false
+and-none true = refl
+and-none false = refl
+
+total-own : (kind k : ℕ) (ls : List Line) → total (quantityOf kind k) ls ≡ total (quantityOf kind k) (own k ls)
+unfolding total quantityOf
+total-own kind k [] = refl
+total-own kind k (l ∷ ls) = by (eqb (l .obligation) k) refl (total-own kind k ls)
+  where
+    by : (t : Bool) → eqb (l .obligation) k ≡ t → total (quantityOf kind k) ls ≡ total (quantityOf kind k) (own k ls) →
+        pick (eqb (l .kind) kind && eqb (l .obligation) k) (l .quantity) 0 + total (quantityOf kind k) ls ≡ total (quantityOf kind k) (pick t (l ∷ own k ls) (own k ls))
+    by true e q = ap (λ (x : ℕ). pick (eqb (l .kind) kind && eqb (l .obligation) k) (l .quantity) 0 + x) q
+    by false e q = rw (e, and-none (eqb (l .kind) kind)) (zero-add (total (quantityOf kind k) ls) ∙ q)
+
+purchases-own : (k : ℕ) (ls : List Line) → purchasesIn k ls ≡ purchasesIn k (own k ls)
+unfolding purchasesIn
+purchases-own k [] = refl
+purchases-own k (l ∷ ls) = by (eqb (l .obligation) k) refl (purchases-own k ls)
+  where
+    p : Purchase
+    p = record { quantity = l .quantity; supplier = l .supplier; price = l .price }
+
+    by : (t : Bool) → eqb (l .obligation) k ≡ t → purchasesIn k ls ≡ purchasesIn k (own k ls) →
+        pick (eqb (l .kind) 3 && eqb (l .obligation) k) (p ∷ purchasesIn k ls) (purchasesIn k ls) ≡ purchasesIn k (pick t (l ∷ own k ls) (own k ls))
+    by true e q = ap (λ (ps : List Purchase). pick (eqb (l .kind) 3 && eqb (l .obligation) k) (p ∷ ps) ps) q
+    by false e q = rw (e, and-none (eqb (l .kind) 3)) q
 
 -- ---- one obligation
 -- what a Close of one obligation moves is what its lines say
@@ -179,35 +222,37 @@ module _ (d : DayEnd) (offers : List Offer) (n : ℕ) (o : Obligation) where
       (λ age. also refl nobody)
       nobody
 
-  -- its lines say nothing of another obligation
-  pub closed-others : (kind k : ℕ) → (n ≡ k → ⊥) → total (quantityOf kind k) (closedOne d offers n o .lines) ≡ 0
-  closed-others kind k h =
-      total-none (quantityOf kind k) (every-map (λ (l : Line) (e : l .obligation ≡ n). other-none kind k l (λ x. h (sym e ∙ x))) closed-own)
-
 -- ---- all obligations
 module _ (d : DayEnd) (offers : List Offer) (os : List Obligation) where
   -- of all lines, none is of an obligation that is behind them
-  pub reported-none : (n kind k : ℕ) → n ≤ k → total (quantityOf kind k) (linesUpTo d offers os n) ≡ 0
-  unfolding linesUpTo total
-  reported-none zero kind k h = refl
-  reported-none (suc n) kind k h =
-      omega (
-        arith,
-        total-append (quantityOf kind k) (linesUpTo d offers os n) (closedAt d offers os n .lines),
-        reported-none n kind k (omega arith),
-        closed-others d offers n (getD os n noObligation) kind k (omega arith),
-      )
+  own-behind : (n k : ℕ) → n ≤ k → own k (linesUpTo d offers os n) ≡ []
+  unfolding linesUpTo
+  own-behind zero k h = refl
+  own-behind (suc n) k h =
+      own-append k (linesUpTo d offers os n) (closedAt d offers os n .lines)
+      ∙ rw (own-behind n k (omega arith), own-none k n (omega arith) (closed-own d offers n (getD os n noObligation)))
 
   -- of all lines, those of obligation k are the lines of its own Close
-  pub reported-one : (n kind k : ℕ) → k < n → total (quantityOf kind k) (linesUpTo d offers os n) ≡ total (quantityOf kind k) (closedAt d offers os k .lines)
+  own-lines : (n k : ℕ) → k < n → own k (linesUpTo d offers os n) ≡ closedAt d offers os k .lines
   unfolding linesUpTo
-  reported-one zero kind k h = absurd (omega arith)
-  reported-one (suc n) kind k h =
-      let e = total-append (quantityOf kind k) (linesUpTo d offers os n) (closedAt d offers os n .lines) in
-      let said : ℕ → ℕ = λ j. total (quantityOf kind k) (closedAt d offers os j .lines) in
-      ⊎-elim (λ (q : k ≡ n). omega (arith, reported-none n kind k (omega arith), ap said q))
-      (λ (q : k < n). omega (arith, reported-one n kind k q, closed-others d offers n (getD os n noObligation) kind k (omega arith)))
+  own-lines zero k h = absurd (omega arith)
+  own-lines (suc n) k h =
+      own-append k (linesUpTo d offers os n) (closedAt d offers os n .lines)
+      ∙ ⊎-elim
+      (λ (q : k ≡ n). rw (own-behind n k (omega arith), ← q) (own-all k (closed-own d offers k (getD os k noObligation))))
+      (λ (q : k < n).
+      rw (own-lines n k q, own-none k n (omega arith) (closed-own d offers n (getD os n noObligation))) (append-nil (closedAt d offers os k .lines)))
       (last-or-below k n h)
+
+  pub reported-none : (n kind k : ℕ) → n ≤ k → total (quantityOf kind k) (linesUpTo d offers os n) ≡ 0
+  unfolding total
+  reported-none n kind k h = total-own kind k (linesUpTo d offers os n) ∙ rw (own-behind n k h)
+
+  pub reported-one : (n kind k : ℕ) → k < n → total (quantityOf kind k) (linesUpTo d offers os n) ≡ total (quantityOf kind k) (closedAt d offers os k .lines)
+  reported-one n kind k h = total-own kind k (linesUpTo d offers os n) ∙ rw (own-lines n k h)
+
+  pub purchases-one : (n k : ℕ) → k < n → purchasesIn k (linesUpTo d offers os n) ≡ purchasesIn k (closedAt d offers os k .lines)
+  purchases-one n k h = purchases-own k (linesUpTo d offers os n) ∙ rw (own-lines n k h)
 
 -- ---- the words of lines
 flat-back : (ls : List Line) (ws : List ℕ) → linesRead (length ls) (flat ls ++ ws) ≡ ls

@@ -1,5 +1,5 @@
 -- What a Close and a Month move.
-use Prim.Native.Nat.{ℕ, _-_, _≤_, _<_}
+use Prim.Native.Nat.{ℕ, _≤_, _<_}
 use native.Mathlib.Omega.{arith}
 use mathlib.Core.Path.{_≡_, refl, sym, ap, _∙_}
 use mathlib.Core.Bool.{Bool, true, false, false≢true}
@@ -12,6 +12,7 @@ use Rattle.basics.specs.Choice.{pick}
 use Rattle.basics.specs.Lists.{total}
 use Rattle.basics.proofs.Cases.{below-or-not}
 use Rattle.calendar.specs.declared.Day.{Day}
+use Rattle.calendar.specs.declared.NextDay.{NextDay}
 use Rattle.calendar.specs.declared.NextDay.the-variants.{At}
 use Rattle.calendar.specs.Closed.{listed}
 use Rattle.calendar.proofs.Ages.{age-early}
@@ -26,12 +27,12 @@ use Rattle.closing.specs.declared.DayEnd.{DayEnd}
 use Rattle.closing.proofs.Parts.{last-none}
 use Rattle.book.specs.declared.Book.{Book}
 use Rattle.book.specs.Book.{ageOf, Valid}
-use Rattle.book.specs.Closing.{nextDay, dayOf, dayEnd, linesOf, closedBook}
+use Rattle.book.specs.Closing.{nextDay, dayEnd, linesOf, closedBook}
 use Rattle.book.specs.Month.{monthBook}
 use Rattle.book.proofs.Ended.{after-closed, after-goes, closed-valid}
 use Rattle.book.proofs.Paid.{zero-at, paid-valid}
 use Rattle.journal.specs.Effects.{onlyReports, onlyCollects}
-use Rattle.journal.specs.Sums.{quantityOf}
+use Rattle.journal.specs.Sums.{movedOn, quantityOf}
 use Rattle.journal.proofs.Moves.{dealAt, heldDeal, heldParts, Shift, Moves}
 use Rattle.journal.proofs.Steps.{shift-none, shift-held}
 use Rattle.journal.proofs.Reported.{closed-moved, reported-one, reported-none}
@@ -108,7 +109,7 @@ module _ (b : Book) (v : Valid b) (price rate : ℕ) (p : price ≤ mostClosePri
     valid = closed-valid b v price rate p r next q;
     closed = refl;
     terms = refl;
-    today = sym (ap dayOf q);
+    today = sym (ap (λ (t : NextDay). movedOn t (b .today)) q);
     deals = same-deals;
     parts = λ k. shift-held (ltb k (l .count)) _ _ 0 _ _ 0 (λ e. there k (ltb-true k (l .count) e)) (not-there k);
     kept = omega arith;

@@ -4,13 +4,13 @@ use mathlib.Core.List.{List}
 use Rattle.calendar.specs.declared.Day.{Day}
 use Rattle.book.specs.declared.Book.{Book}
 
--- what an Open was given: the first day, the closed days and the terms
+-- O1, Open: what an Open was given: the first day, the closed days as they were lent, and the number of the terms
 pub record Opening : Type 0 where
   pub first : Day
   pub closed : List ℕ
   pub terms : ℕ
 
--- 01, Whole journals: a call with any arguments, and the lists that it is lent as they are when it begins
+-- J1, Whole journals: a call with any arguments, and the lists that it is lent as they are when it begins
 pub data Call : Type 0 where
   enter : (member other side quantity amount : ℕ) (day : Day) → Call
   withdraw : (leg member : ℕ) → Call
@@ -20,16 +20,24 @@ pub data Call : Type 0 where
   close : (price rate : ℕ) (lines : List ℕ) → Call
   month : (collected payouts : List ℕ) → Call
 
--- a call and what came of it: the answer number, the results in the paper's order, and the words of the list that it
--- fills as the call ended (the lines of a Close, the payouts of a Month; no words for the others)
+-- J3, Whole journals: a call and what came of it: the answer number, the results in the order of the rules, and the words
+-- of its lent lists as the call ended: of the list that it fills (the lines of a Close, the payouts of a Month) and of the
+-- list that it only reads (the collected amounts of a Month). There are no words for the other calls.
 pub record Event : Type 0 where
   pub call : Call
   pub answer : ℕ
   pub results : List ℕ
   pub words : List ℕ
+  pub kept : List ℕ
 
--- a journal under way: its Open, the book, and the events that led to it, the latest first
+-- J3, Whole journals: what came of an Open: its answer number, and the closed days that it was lent, as it ended
+pub record Began : Type 0 where
+  pub answer : ℕ
+  pub closed : List ℕ
+
+-- a journal under way: its Open and what came of it, the book, and the events that led to it, the latest first
 pub record Run : Type 0 where
   pub opening : Opening
+  pub began : Began
   pub book : Book
   pub past : List Event

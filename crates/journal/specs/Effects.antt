@@ -10,20 +10,21 @@ use Rattle.calendar.specs.declared.Day.{Day}
 use Rattle.closing.specs.declared.Line.{Line}
 use Rattle.journal.specs.Calls.{Call, enter, withdraw, cancel, deliver, offer, close, month, Event}
 
--- 01, Whole journals: what the Enter that returned an obligation instructed: its parties, quantity and settlement day
+-- J4, Whole journals: what the Enter that returned an obligation instructed: its parties, quantity and settlement day
 pub record Deal : Type 0 where
   pub seller : ℕ
   pub buyer : ℕ
   pub quantity : ℕ
   pub day : Day
 
--- 01, Instructions: side 0 delivers, so its member sells to the other; side 1 receives
+-- E1 and E8, Enter: the member of side 0 delivers, so it sells to the other member. The member of side 1 receives.
 unfoldable pub dealOf : ℕ → ℕ → ℕ → ℕ → Day → Deal
 dealOf member other side q j =
     pick (eqb side 0) (record { seller = member; buyer = other; quantity = q; day = j })
     (record { seller = other; buyer = member; quantity = q; day = j })
 
--- 01, Whole journals: the reported lines are as many as the Close returned, read from its list as it ends
+-- J5 and C11, Whole journals: the reported lines of a Close are read from its list as it ended. They are as many as the
+-- Close returned, and each has six words.
 unfoldable pub linesRead : ℕ → List ℕ → List Line
 linesRead zero ws = []
 linesRead (suc k) ws =
@@ -47,27 +48,27 @@ pub record Effect : Type 0 where
   pub collects : Option (List ℕ)
   pub turns : Bool
 
--- nothing is added
+-- the effect of an event that adds nothing
 abbrev pub quiet : Effect
 quiet = record { instructs = λ n. none; delivers = λ n. 0; cancels = λ n. 0; lines = []; collects = none; turns = false }
 
--- 01, Whole journals: an Enter that returned n + 1 instructs obligation n
+-- J4, Whole journals: an Enter that returned n + 1 instructs obligation n
 abbrev pub onlyInstructs : (ℕ → Option Deal) → Effect
 onlyInstructs f = record { instructs = f; delivers = λ n. 0; cancels = λ n. 0; lines = []; collects = none; turns = false }
 
--- a Deliver delivers its quantity
+-- J6, Whole journals: a Deliver delivers its quantity
 abbrev pub onlyDelivers : (ℕ → ℕ) → Effect
 onlyDelivers f = record { instructs = λ n. none; delivers = f; cancels = λ n. 0; lines = []; collects = none; turns = false }
 
--- a Cancel cancels what it returned
+-- J9, Whole journals: a Cancel cancels what it returned
 abbrev pub onlyCancels : (ℕ → ℕ) → Effect
 onlyCancels f = record { instructs = λ n. none; delivers = λ n. 0; cancels = f; lines = []; collects = none; turns = false }
 
--- a Close reports its lines and ends the day
+-- J5, Whole journals: a Close reports its lines, and it ends the day
 abbrev pub onlyReports : List Line → Effect
 onlyReports ls = record { instructs = λ n. none; delivers = λ n. 0; cancels = λ n. 0; lines = ls; collects = none; turns = true }
 
--- a Month collects
+-- J13, Whole journals: a Month collects the amounts that it was lent
 abbrev pub onlyCollects : List ℕ → Effect
 onlyCollects cs = record { instructs = λ n. none; delivers = λ n. 0; cancels = λ n. 0; lines = []; collects = some cs; turns = false }
 
@@ -82,10 +83,10 @@ effectOf (offer m supplier q price) rs ws = quiet
 effectOf (close price rate lines) rs ws = onlyReports (linesRead (getD rs 0 0) ws)
 effectOf (month collected payouts) rs ws = onlyCollects collected
 
--- 01, Whole journals: accepted means answer number 0
+-- J2, Whole journals: a call is accepted if its answer number is 0
 abbrev pub accepted : Event → Bool
 accepted e = eqb (e .answer) 0
 
--- what an event adds: a refused call adds nothing
+-- A5, Refusals: what an event adds; a refused call adds nothing
 abbrev pub effect : Event → Effect
 effect e = pick (accepted e) (effectOf (e .call) (e .results) (e .words)) quiet

@@ -23,8 +23,8 @@ use Rattle.journal.specs.Effects.{Deal, accepted, effect}
 use Rattle.journal.specs.Sums.{closedIn, termsIn, todayIn, orElse, dealIn, isMonth}
 
 -- ---- what one event leaves for later
--- 01, Enter and Withdraw: what a call does to the legs: it enters one, and these are the two numbers that it returned, or
--- it withdraws one
+-- E2 and T1, Enter and Withdraw: what a call does to the legs. It enters one, and then the two numbers are those that it
+-- returned, or it withdraws one, or it does neither.
 pub data LegChange : Type 0 where
   enters : (leg obligation : ℕ) → Leg → LegChange
   withdraws : ℕ → LegChange
@@ -38,11 +38,11 @@ pub record Trace : Type 0 where
   pub offers : List Offer
   pub price : ℕ
 
--- nothing is left
+-- the trace of a call that leaves nothing
 abbrev pub noTrace : Trace
 noTrace = record { legs = neither; wishes = λ n m. false; offers = []; price = 0 }
 
--- an Enter or a Withdraw changes the legs
+-- the trace of a call that only changes the legs
 abbrev pub onlyLegs : LegChange → Trace
 onlyLegs c = record { legs = c; wishes = λ n m. false; offers = []; price = 0 }
 
@@ -61,87 +61,93 @@ traceOf (offer k supplier q price) rs = record {
 traceOf (close price rate lines) rs = record { legs = neither; wishes = λ n m. false; offers = []; price = price }
 traceOf (month collected payouts) rs = noTrace
 
--- what an event leaves: a refused call leaves nothing
+-- A5, Refusals: what an event leaves; a refused call leaves nothing
 abbrev pub trace : Event → Trace
 trace e = pick (accepted e) (traceOf (e .call) (e .results)) noTrace
 
 -- ---- Close
--- 01, Refusals, 21: whether a Close was accepted since the start or the last accepted Month
+-- R21, Refusals: whether a Close was accepted since the start or since the last accepted Month
 unfoldable pub closeSinceIn : List Event → Bool
 closeSinceIn [] = false
 closeSinceIn (e ∷ es) = pick (effect e .turns) true (pick (isMonth (effect e .collects)) false (closeSinceIn es))
 
--- 01, Buy-in, the cap: today is the day at which the age of a deal is grace
+-- B8, Buy-in: whether today is a day on which the age of a deal is grace
 abbrev pub isGraceDay : Opening → Day → Option Deal → Bool
 isGraceDay o today none = false
 isGraceDay o today (some i) = eqb (ageAt (listed (closedIn o)) (i .day) today .0) (termsIn o .grace .0)
 
--- 01, Buy-in, the cap: the price of the accepted Close at age = grace of an obligation, which is its age on the day that
--- the Close ends; 0 before one
+-- B8 and B9, Buy-in: the price for the cap of an obligation is that of the accepted Close at age = grace, which is the age
+-- on the day that this Close ends. Before such a Close it is 0.
 unfoldable pub gracePriceIn : Opening → ℕ → List Event → ℕ
 gracePriceIn o n [] = 0
 gracePriceIn o n (e ∷ es) =
     pick (effect e .turns && isGraceDay o (todayIn o es) (dealIn n es)) (trace e .price) (gracePriceIn o n es)
 
--- 01, Buy-in: offers last until today's Close; those of today in the order of entry, the latest first
+-- B9, Buy-in: whether a Close was accepted at age = grace of an obligation
+unfoldable pub graceClosedIn : Opening → ℕ → List Event → Bool
+graceClosedIn o n [] = false
+graceClosedIn o n (e ∷ es) = graceClosedIn o n es || (effect e .turns && isGraceDay o (todayIn o es) (dealIn n es))
+
+-- B5, Buy-in: the offers since the last accepted Close, the latest first. An accepted Close ends them.
 unfoldable pub offersIn : List Event → List Offer
 offersIn [] = []
 offersIn (e ∷ es) = pick (effect e .turns) [] (trace e .offers ++ offersIn es)
 
 -- ---- Cancel
--- 01, Cancel: whether an accepted Cancel of obligation n by member m is among the events
+-- K1 and K4, Cancel: whether an accepted Cancel of obligation n by member m is among the events
 unfoldable pub wishedIn : ℕ → ℕ → List Event → Bool
 wishedIn n m [] = false
 wishedIn n m (e ∷ es) = trace e .wishes n m || wishedIn n m es
 
 -- ---- Enter and Withdraw
--- leg k of these legs goes into another state
+-- these legs with leg k in another state
 abbrev pub legIntoState : ℕ → LegState → List Leg → List Leg
 legIntoState k state ls = set ls k (inState state (getD ls k noLeg))
 
--- 01, Enter: the legs after an Enter that returned this for its obligation, by the leg that fits: the new leg waits, or
--- both are matched to the obligation
+-- E10, Enter: the legs after an Enter that returned this number for its obligation. If no leg fits, the new one waits, and
+-- if one fits, both are matched to the obligation.
 abbrev pub legsWith : Leg → ℕ → Fit → List Leg → List Leg
 legsWith new obligation Nobody ls = ls ++ new ∷ []
 legsWith new obligation (With k) ls =
     legIntoState k (Matched (obligation - 1)) ls ++ inState (Matched (obligation - 1)) new ∷ []
 
--- 01, Enter and Withdraw: what a change makes of the legs; a new leg matches the lowest waiting leg that fits
+-- E5 and T1, Enter and Withdraw: what a change makes of the legs. A new leg matches the waiting leg with the lowest number
+-- that fits.
 abbrev pub legsAfter : LegChange → List Leg → List Leg
 legsAfter (enters leg obligation new) ls = legsWith new obligation (firstFit new 0 ls) ls
 legsAfter (withdraws k) ls = legIntoState k Withdrawn ls
 legsAfter neither ls = ls
 
--- 01, Instructions: the legs entered so far, numbered from 0, each waiting, withdrawn or matched
+-- E2 and E3, Enter: the legs entered so far, numbered from 0, each of them waiting, withdrawn or matched
 unfoldable pub legsIn : List Event → List Leg
 legsIn [] = []
 legsIn (e ∷ es) = legsAfter (trace e .legs) (legsIn es)
 
--- 01, Enter: the leg that a change enters under number n
+-- E11, Enter: the leg that a change enters under number n
 abbrev pub enteredAs : ℕ → LegChange → Option Leg
 enteredAs n (enters leg obligation new) = pick (eqb leg n) (some new) none
 enteredAs n (withdraws k) = none
 enteredAs n neither = none
 
--- 01, Enter: leg n as it was instructed, if an accepted Enter returned its number
+-- E11, Enter: leg n as it was instructed, if an accepted Enter returned its number
 unfoldable pub legIn : ℕ → List Event → Option Leg
 legIn n [] = none
 legIn n (e ∷ es) = orElse (enteredAs n (trace e .legs)) (legIn n es)
 
--- whether leg n is the one that fits
+-- whether leg n is the leg that fits
 abbrev pub isFit : ℕ → Fit → Bool
 isFit n Nobody = false
 isFit n (With k) = eqb k n
 
--- 01, Enter and Withdraw: whether leg n waits after a change, where these are the legs before it and this is whether it
--- waited then: a leg that is entered waits unless its Enter returned an obligation, and any other waits on unless it is
--- withdrawn or a new leg matches it
+-- E10 and T1, Enter and Withdraw: whether leg n waits after a change, where these are the legs before it and the last
+-- argument is whether leg n waited then. A leg that is entered waits unless its Enter returned an obligation. Any other
+-- leg goes on waiting unless it is withdrawn or a new leg matches it.
 abbrev pub waitsAfter : ℕ → LegChange → List Leg → Bool → Bool
 waitsAfter n (enters leg obligation new) ls waited = pick (eqb leg n) (eqb obligation 0) (not (isFit n (firstFit new 0 ls)) && waited)
 waitsAfter n (withdraws k) ls waited = not (eqb k n) && waited
 waitsAfter n neither ls waited = waited
 
--- 01, Instructions: whether leg n waits: an accepted Enter returned it and matched it with none, and since then no accepted
+-- E3 and E12, Enter: whether leg n waits: an accepted Enter returned it and found no match, and since then no accepted
 -- Withdraw named it and no accepted Enter matched it
 unfoldable pub waitingIn : ℕ → List Event → Bool
 waitingIn n [] = false

@@ -1,6 +1,6 @@
--- Whole journals. Calls: the calls and what came of them. Played: what the rules give for a list of calls. Effects: what
--- one event adds to a journal. Sums: the sums over a journal. History: what a book stores, by the events alone. Promise:
--- what is promised of every journal.
+-- Whole journals. `Calls` has the calls and what came of them, `Played` what the rules give for a list of calls, `Effects`
+-- what one event adds to a journal, `Sums` the sums over a journal, `History` what a book stores, said by the events alone,
+-- and `Promise` what is promised of every journal.
 pub mod Calls
 pub mod Played
 pub mod Effects

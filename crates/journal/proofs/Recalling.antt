@@ -1,0 +1,119 @@
+-- Whatever calls are played from an Open, the book stores what the events tell: `played-recalls` at the end.
+use Prim.Native.Nat.{ℕ, _<_}
+use native.Mathlib.Omega.{arith}
+use mathlib.Core.Path.{_≡_, refl, ap, ap₂, _∙_}
+use mathlib.Core.Bool.{Bool, true, false, _&&_, _||_}
+use mathlib.Core.List.{List, [], _∷_}
+use mathlib.Core.Option.{none, some}
+use lib.Dec.{eqb, ltb}
+use borrow.Author.Tests.{lt-ltb, le-ltb}
+use Rattle.basics.specs.Choice.{pick}
+use Rattle.calendar.specs.declared.Day.{Day}
+use Rattle.calendar.specs.declared.ClosedDays.{ClosedDays}
+use Rattle.calendar.specs.Closed.{day, closedDays, listed as closedListed}
+use Rattle.calendar.specs.Days.{ageAt}
+use Rattle.offers.specs.Rank.{ranked}
+use Rattle.offers.specs.Held.{listed}
+use Rattle.offers.proofs.Holding.{listed-none}
+use Rattle.instructions.specs.Legs.{entered}
+use Rattle.ledger.specs.declared.Parts.{Parts}
+use Rattle.ledger.specs.Ledger.{obligationAt}
+use Rattle.refusals.specs.Refusals.{answer}
+use Rattle.refusals.proofs.Refusals.{by-number}
+use Rattle.book.specs.declared.Book.{Book}
+use Rattle.book.specs.declared.Opened.{Opened}
+use Rattle.book.specs.Book.{ageOf}
+use Rattle.book.specs.Open.{opened, openRefusals, openRefused, freshBook, refusedBook}
+use Rattle.journal.specs.Calls.{Opening, Call, Event, Run}
+use Rattle.journal.specs.Played.{outcome, eventOf, played}
+use Rattle.journal.specs.Effects.{effect}
+use Rattle.journal.specs.Sums.{closedIn, termsIn, todayIn, orElse, dealIn, isMonth}
+use Rattle.journal.specs.History.{trace, closeSinceIn, isGraceDay, gracePriceIn, offersIn, wishedIn, legsAfter, legsIn, enteredAs, legIn, waitsAfter, waitingIn}
+use Rattle.journal.proofs.Moves.{dealAt, heldParts, Moves, Agrees}
+use Rattle.journal.proofs.Every.{call-moves}
+use Rattle.journal.proofs.Model.{played-known}
+use Rattle.journal.proofs.RecalledLegs.{legOf, waitsOf, Proper, change-leg, change-waits}
+use Rattle.journal.proofs.RecalledRows.{heldPrice, heldWish, atGrace, Stands}
+use Rattle.journal.proofs.RecalledCalls.{Leaves, call-leaves}
+
+-- the book stores what the events tell
+pub record Recalls (o : Opening) (b : Book) (es : List Event) : Type 0 where
+  pub close-since : b .«close_since» ≡ closeSinceIn es
+  pub prices : (n : ℕ) → Stands b n → heldPrice b n ≡ gracePriceIn o n es
+  pub offers : listed (b .ledger .offers) ≡ ranked (offersIn es)
+  pub wishes : (n m : ℕ) → heldWish m b n ≡ wishedIn n m es
+  pub legs : entered (b .legs) ≡ legsIn es
+  pub leg : (n : ℕ) → legOf n (legsIn es) ≡ legIn n es
+  pub waits : (n : ℕ) → waitsOf n (legsIn es) ≡ waitingIn n es
+
+-- ---- the start
+fresh-recalls : (o : Opening) (first : Day) (closed : ClosedDays) (terms : ℕ) → Recalls o (freshBook first closed terms) []
+unfolding closeSinceIn gracePriceIn offersIn wishedIn legsIn legIn waitingIn
+fresh-recalls o first closed terms =
+    let nobody : (n : ℕ) → ltb n 0 ≡ false = λ n. le-ltb n 0 (omega arith) in
+    record {
+      close-since = refl;
+      prices = λ n s. rw (nobody n);
+      offers = listed-none;
+      wishes = λ n m. rw (nobody n);
+      legs = refl;
+      leg = λ n. rw (nobody n);
+      waits = λ n. refl;
+    }
+
+open-recalls : (o : Opening) → Recalls o (opened (o .first) (o .closed) (o .terms) .book) []
+unfolding opened refusedBook
+open-recalls o =
+    by-number (λ (x : Opened). Recalls o (x .book) []) (answer (openRefusals (o .first) (o .closed) (o .terms))) _ openRefused
+    (λ z. fresh-recalls o (day 2) (closedDays []) 0)
+    (λ e. fresh-recalls o (o .first) (closedDays (o .closed)) (o .terms))
+
+-- ---- one call more
+module _ (o : Opening) (b after : Book) (es : List Event) (e : Event) (g : Agrees o b es) (m : Moves b after (effect e))
+    (l : Leaves b after (effect e) (trace e)) (k : Recalls o b es) where
+  -- what is outstanding after the call was so before it
+  stands-before : (n : ℕ) → Stands after n → Stands b n
+  stands-before n s h =
+      let there : n < after .ledger .count = omega (arith, h, m .kept) in
+      let now : heldParts after n ≡ obligationAt (after .ledger) n .parts = rw (lt-ltb n (after .ledger .count) there) in
+      let before : heldParts b n ≡ obligationAt (b .ledger) n .parts = rw (lt-ltb n (b .ledger .count) h) in
+      omega (arith, s there, m .less n h, ap (λ (p : Parts). p .outstanding) now, ap (λ (p : Parts). p .outstanding) before)
+
+  -- the events tell whether the age is grace
+  grace-told : (n : ℕ) → atGrace b n ≡ isGraceDay o (todayIn o es) (dealIn n es)
+  unfolding ageOf
+  grace-told n = rw (g .deals n, g .closed, g .today, g .terms) (by (ltb n (b .ledger .count)))
+    where
+      by : (t : Bool) →
+          pick t (eqb (ageAt (closedListed (closedIn o)) (obligationAt (b .ledger) n .day) (todayIn o es) .0) (termsIn o .grace .0)) false ≡
+          isGraceDay o (todayIn o es) (pick t (some (dealAt (obligationAt (b .ledger) n))) none)
+      by true = refl
+      by false = refl
+
+  recalls-step : Recalls o after (e ∷ es)
+  unfolding closeSinceIn gracePriceIn offersIn wishedIn legsIn legIn waitingIn
+  recalls-step =
+      let proper : Proper (trace e .legs) (legsIn es) = rw (k .legs) at (l .proper) in
+      record {
+        close-since = l .close-since ∙ ap (λ (t : Bool). pick (effect e .turns) true (pick (isMonth (effect e .collects)) false t)) (k .close-since);
+        prices = λ n s.
+            l .rows .prices n s
+            ∙ ap₂ (λ (t : Bool) (p : ℕ). pick (effect e .turns && t) (trace e .price) p) (grace-told n) (k .prices n (stands-before n s));
+        offers = l .offers (offersIn es) (k .offers);
+        wishes = λ n j. l .rows .wished n j ∙ ap (λ (t : Bool). trace e .wishes n j || t) (k .wishes n j);
+        legs = l .legs ∙ ap (legsAfter (trace e .legs)) (k .legs);
+        leg = λ n. change-leg (trace e .legs) (legsIn es) proper n ∙ ap (orElse (enteredAs n (trace e .legs))) (k .leg n);
+        waits = λ n. change-waits (trace e .legs) (legsIn es) proper n ∙ ap (waitsAfter n (trace e .legs) (legsIn es)) (k .waits n);
+      }
+
+-- ---- every run
+abbrev pub RunRecalls : Run → Type 0
+RunRecalls s = Recalls (s .opening) (s .book) (s .past)
+
+pub played-recalls : (o : Opening) (cs : List Call) → RunRecalls (played o cs)
+played-recalls o [] = open-recalls o
+played-recalls o (c ∷ earlier) =
+    let s = played o earlier in
+    let g = played-known o earlier .agrees in
+    recalls-step (s .opening) (s .book) (outcome (s .book) c .book) (s .past) (eventOf (s .book) c) g
+    (call-moves (s .book) (g .valid) c) (call-leaves (s .book) (g .valid) c) (played-recalls o earlier)
