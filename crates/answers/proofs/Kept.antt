@@ -1,4 +1,4 @@
--- Counts of the words that have the value that they were filled with.
+-- How the words are counted that still have the value that they were filled with. Such a word is called kept.
 use Prim.Native.Nat.{ℕ, _+_, _≤_, _<_}
 use native.Mathlib.Numerals.{add-one}
 use native.Mathlib.Omega.{arith}
@@ -11,20 +11,20 @@ use borrow.Author.Tests.{eq-eqb, ne-eqb}
 use Rattle.basics.specs.Choice.{pick}
 use Rattle.answers.specs.Text.{keptOf}
 
--- a list with one word more
+-- the count of a list with one more word at its end
 kept-snoc : (fill : ℕ) (ws : List ℕ) (w : ℕ) → keptOf fill (ws ++ w ∷ []) ≡ keptOf fill ws + pick (eqb w fill) 1 0
 unfolding keptOf
 kept-snoc fill [] w = omega arith
 kept-snoc fill (v ∷ ws) w = omega (arith, kept-snoc fill ws w)
 
--- no words up to the place where the count begins
+-- the count begins with no words, so it is 0
 pub kept-none : (words : List ℕ) (from fill : ℕ) → 0 ≡ keptOf fill (drop from (take from words))
 unfolding keptOf
 kept-none words from fill =
     rw (drop-of-length-le (take from words) {i = from} (omega (arith, length-take from words)))
 
 module _ (words : List ℕ) (from i fill : ℕ) (f : from ≤ i) (l : i < length words) where
-  -- the words up to a place, and the one there
+  -- the count up to a place, and the word at that place
   kept-next : keptOf fill (drop from (take (i + 1) words))
       ≡ keptOf fill (drop from (take i words)) + pick (eqb (getD words i 0) fill) 1 0
   kept-next =
@@ -35,12 +35,12 @@ module _ (words : List ℕ) (from i fill : ℕ) (f : from ≤ i) (l : i < length
       )
       (kept-snoc fill (drop from (take i words)) (getD words i 0))
 
-  -- the word there is kept
+  -- if the word at that place is kept, the count grows by one
   pub kept-more : (kept : ℕ) → kept ≡ keptOf fill (drop from (take i words)) → getD words i 0 ≡ fill
       → kept + 1 ≡ keptOf fill (drop from (take (i + 1) words))
   kept-more kept e h = sym (kept-next ∙ rw (eq-eqb (getD words i 0) fill h, e))
 
-  -- the word there is not kept
+  -- if it is not kept, the count stays the same
   pub kept-same : (kept : ℕ) → kept ≡ keptOf fill (drop from (take i words)) → (getD words i 0 ≡ fill → ⊥)
       → kept ≡ keptOf fill (drop from (take (i + 1) words))
   kept-same kept e h =

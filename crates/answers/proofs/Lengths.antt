@@ -1,14 +1,12 @@
--- How long the parts of an answer are.
+-- How many bytes the parts of an answer have at most.
 use Prim.Native.Nat.{ℕ, zero, suc, _+_, _*_, _≤_}
 use native.Mathlib.Numerals.{add-one}
 use native.Mathlib.Omega.{arith}
 use mathlib.Core.Path.{_≡_}
-use mathlib.Core.List.{List, [], _∷_, _++_}
+use mathlib.Core.List.{List, [], _++_}
 use lib.ListN.{length, getD, take, drop, length-append, length-take}
-use Rattle.writing.specs.Digits.{digitsOf}
-use Rattle.writing.specs.Answers.{lineFeed}
 use Rattle.writing.proofs.Digits.{digits-most, signed-most}
-use Rattle.writing.proofs.Writing.{spaced-most, line-most}
+use Rattle.writing.proofs.Writing.{spaced-most, line-most, labelled-most}
 use Rattle.answers.specs.Text.{numbersText, balanceText, sixText, linesText, keptText, paidText}
 use Rattle.answers.specs.declared.Answer.{Answer}
 
@@ -29,13 +27,13 @@ pub six-most : (ws : List ℕ) → length (sixText (take 6 ws)) ≤ 129
 unfolding sixText
 six-most ws = omega (arith, line-most (take 6 ws), length-take 6 ws)
 
--- the first lines of a Close, and one more
+-- the text of k + 1 lines is that of the first k, and one more line
 pub lines-more : (words : List ℕ) (k : ℕ)
     → linesText words (k + 1) ≡ linesText words k ++ sixText (take 6 (drop (6 * k) words))
 unfolding linesText
 lines-more words k = rw add-one
 
--- lines of a Close
+-- the first k lines of a Close
 pub lines-most : (words : List ℕ) (k : ℕ) → length (linesText words k) ≤ 129 * k
 unfolding linesText
 lines-most words zero = omega arith
@@ -47,12 +45,12 @@ lines-most words (suc k) =
       six-most (drop (6 * k) words),
     )
 
--- how many words are kept
+-- the line that says how many words are kept
 pub kept-most : (n : ℕ) → length (keptText n) ≤ 28
 unfolding keptText
-kept-most n = omega (arith, length-append (digitsOf n) (lineFeed ∷ []), digits-most n)
+kept-most n = labelled-most _ n
 
--- the answer of a Month: at most 21 bytes for each place, and 21
+-- the answer to a Month: at most 21 bytes for each place, and 21 more
 pub paid-most : (a : Answer) (words : List ℕ) → length (paidText a words) ≤ 21 * a .lent + 21
 unfolding paidText
 paid-most a words =

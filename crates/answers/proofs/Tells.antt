@@ -1,4 +1,4 @@
--- Which answers can be written, and in how much room.
+-- Which answers can be written, and how much room they need.
 use Prim.Native.Nat.{ℕ, _*_, _≤_}
 use native.Mathlib.Omega.{arith}
 use mathlib.Core.Path.{_≡_, refl, sym, subst}
@@ -15,7 +15,7 @@ use Rattle.answers.specs.declared.Form.the-variants.{Nothing, NoCall, Nu
 use Rattle.answers.specs.declared.Answer.{Answer}
 use Rattle.answers.proofs.Lengths.{numbers-most, balance-most, lines-most, kept-most, paid-most}
 
--- an answer with no words that are lent
+-- an answer without lent words can be written
 unlent-tells : (a : Answer) (words : List ℕ) → a .count ≤ 7 → length (a .numbers) ≡ 7 → a .lent ≡ 0 → a .lines ≡ 0 → Tellable a words
 unlent-tells a words few whole none no-lines = record {
   few = few;
@@ -25,33 +25,33 @@ unlent-tells a words few whole none no-lines = record {
   lines = omega (arith, no-lines);
 }
 
--- a comment's
+-- the answer to a comment can be written
 pub nothing-tells : (words : List ℕ) → Tellable nothing words
 unfolding nothing
 nothing-tells words = unlent-tells nothing words (omega arith) refl refl refl
 
--- that of a line that is no call
+-- so can the answer to a line that is no call
 pub no-call-tells : (words : List ℕ) → Tellable noCall words
 unfolding noCall
 no-call-tells words = unlent-tells noCall words (omega arith) refl refl refl
 
--- an answer number and results
+-- so can an answer number with results
 pub numbers-tells : (count answer second third : ℕ) (words : List ℕ) → count ≤ 7
     → Tellable (numbersTold count answer second third) words
 unfolding numbersTold
 numbers-tells count answer second third words h = unlent-tells (numbersTold count answer second third) words h refl refl refl
 
--- seven numbers
+-- so can seven numbers
 pub status-tells : (seven words : List ℕ) → length seven ≡ 7 → Tellable (statusTold seven) words
 unfolding statusTold
 status-tells seven words h = unlent-tells (statusTold seven) words (omega arith) h refl refl
 
--- an answer number and signed cents
+-- so can an answer number with signed cents
 pub balance-tells : (answer : ℕ) (cents : ℤ) (words : List ℕ) → Tellable (balanceTold answer cents) words
 unfolding balanceTold
 balance-tells answer cents words = unlent-tells (balanceTold answer cents) words (omega arith) refl refl refl
 
--- that of a Close, with the lines in words that were lent
+-- so can the answer to a Close whose lines stand within the words that were lent
 pub closed-tells : (answer lines lent fill : ℕ) (words : List ℕ)
     → lent ≤ mostLent → lent ≤ length words → 6 * lines ≤ lent → Tellable (closedTold answer lines lent fill) words
 unfolding closedTold
@@ -63,7 +63,7 @@ closed-tells answer lines lent fill words m w l = record {
   lines = l;
 }
 
--- that of a Month, with places in words that were lent
+-- so can the answer to a Month whose places stand within the words that were lent
 pub paid-tells : (answer lent : ℕ) (words : List ℕ) → lent ≤ mostLent → lent ≤ length words
     → Tellable (paidTold answer lent) words
 unfolding paidTold
@@ -76,7 +76,7 @@ paid-tells answer lent words m w = record {
 }
 
 module _ (a : Answer) (line : ℕ) (words : List ℕ) (t : Tellable a words) where
-  -- the answer of a Close
+  -- the answer to a Close fits its room
   closed-most : length (closedText a words) ≤ mostAnswer
   unfolding closedText
   closed-most =
@@ -88,7 +88,7 @@ module _ (a : Answer) (line : ℕ) (words : List ℕ) (t : Tellable a words) whe
         kept-most (keptOf (a .fill) (drop (6 * a .lines) (take (a .lent) words))),
       ))
 
-  -- an answer in each form
+  -- so does an answer in each form
   text-most : (f : Form) → length (textIn f a line words) ≤ mostAnswer
   unfolding textIn
   text-most Nothing = omega arith
@@ -98,7 +98,7 @@ module _ (a : Answer) (line : ℕ) (words : List ℕ) (t : Tellable a words) whe
   text-most Closed = closed-most
   text-most Paid = omega (arith, paid-most a words)
 
-  -- what is written of an answer fits its room
+  -- every answer that can be written fits its room
   pub answer-most : length (answerText a line words) ≤ mostAnswer
   unfolding answerText
   answer-most = text-most (a .form)

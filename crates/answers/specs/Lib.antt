@@ -1,3 +1,3 @@
--- Answers as text. Told: the answers of the calls. Text: what is written of them.
+-- Answers as text. Told: the answers, each in its form. Text: how an answer is written.
 pub mod Told
 pub mod Text

@@ -1,4 +1,4 @@
--- What is written of an answer.
+-- How an answer is written (docs/JOURNAL.md, Lines out).
 use Prim.Native.Nat.{ℕ, zero, suc, _+_, _*_, _≤_}
 use mathlib.Core.Path.{_≡_}
 use mathlib.Core.List.{List, [], _∷_, _++_, map}
@@ -7,7 +7,7 @@ use lib.ListN.{length, getD, take, drop}
 use Rattle.basics.specs.Choice.{pick}
 use Rattle.writing.specs.Digits.{digitsOf, signedOf}
 use Rattle.writing.specs.Words.{space, spaced}
-use Rattle.writing.specs.Answers.{lineFeed, answerOf, noCallOf}
+use Rattle.writing.specs.Answers.{lineFeed, answerOf, labelled, noCallOf}
 use Rattle.answers.specs.declared.Form.{Form}
 use Rattle.answers.specs.declared.Form.the-variants.{Nothing, NoCall, Numbers, Balance, Closed, Paid}
 use Rattle.answers.specs.declared.Answer.{Answer}
@@ -16,11 +16,12 @@ use Rattle.answers.specs.declared.Answer.{Answer}
 abbrev pub mostLent : ℕ
 mostLent = 4_096
 
--- the most bytes of an answer: 22 for each word that is lent, and 100
+-- the most bytes of an answer: 22 for each of the most words that are lent, and 100 more
 abbrev pub mostAnswer : ℕ
 mostAnswer = 22 * mostLent + 100
 
--- an answer that can be written: it has at most seven numbers, and its lines are within the words that were lent
+-- An answer can be written: it shows at most seven numbers, at most 4,096 words were lent, and its lines stand within
+-- these words.
 pub record Tellable (a : Answer) (words : List ℕ) : Type 0 where
   pub few : a .count ≤ 7
   pub whole : length (a .numbers) ≡ 7
@@ -28,45 +29,45 @@ pub record Tellable (a : Answer) (words : List ℕ) : Type 0 where
   pub within : a .lent ≤ length words
   pub lines : 6 * a .lines ≤ a .lent
 
--- the first few numbers, and a line feed
+-- the numbers that are shown, and a line feed
 unfoldable pub numbersText : Answer → List ℕ
 numbersText a = answerOf (take (a .count) (a .numbers))
 
--- the answer number, and signed cents
+-- the answer number, signed cents, and a line feed
 unfoldable pub balanceText : Answer → List ℕ
 balanceText a = digitsOf (getD (a .numbers) 0 0) ++ space ∷ signedOf (a .cents) ++ lineFeed ∷ []
 
--- a line of a Close: two spaces and six words
+-- a line of a Close: two spaces, six words, and a line feed
 unfoldable pub sixText : List ℕ → List ℕ
 sixText six = space ∷ space ∷ answerOf six
 
--- the first so many lines of a Close
+-- the first lines of a Close, by their number
 unfoldable pub linesText : List ℕ → ℕ → List ℕ
 linesText words zero = []
 linesText words (suc k) = linesText words k ++ sixText (take 6 (drop (6 * k) words))
 
--- how many words have the value that they were filled with
+-- how many words still have the value that they were filled with
 unfoldable pub keptOf : ℕ → List ℕ → ℕ
 keptOf fill [] = 0
 keptOf fill (w ∷ ws) = pick (eqb w fill) 1 0 + keptOf fill ws
 
--- how many words are kept: two spaces, kept, and the number
+-- how many words are kept: two spaces, the word kept, and the number
 unfoldable pub keptText : ℕ → List ℕ
-keptText n = space ∷ space ∷ 107 ∷ 101 ∷ 112 ∷ 116 ∷ space ∷ digitsOf n ++ lineFeed ∷ []
+keptText n = labelled (space ∷ space ∷ 107 ∷ 101 ∷ 112 ∷ 116 ∷ space ∷ []) n
 
--- the answer of a Close: answer number and number of lines, the lines, and how many words behind them are kept
+-- the answer to a Close: answer number and number of lines, the lines, and how many words after them are kept
 unfoldable pub closedText : Answer → List ℕ → List ℕ
 closedText a words =
     numbersText a
     ++ linesText words (a .lines)
     ++ keptText (keptOf (a .fill) (drop (6 * a .lines) (take (a .lent) words)))
 
--- the answer of a Month: the answer number, and on the same line the places for payouts
+-- the answer to a Month: the answer number, and on the same line the places for payouts
 unfoldable pub paidText : Answer → List ℕ → List ℕ
 paidText a words =
     digitsOf (getD (a .numbers) 0 0) ++ spaced (map digitsOf (take (a .lent) words)) ++ lineFeed ∷ []
 
--- what is written of an answer in each form
+-- the text of an answer in each form
 unfoldable pub textIn : Form → Answer → ℕ → List ℕ → List ℕ
 textIn Nothing a line words = []
 textIn NoCall a line words = noCallOf line
@@ -75,6 +76,6 @@ textIn Balance a line words = balanceText a
 textIn Closed a line words = closedText a words
 textIn Paid a line words = paidText a words
 
--- what is written of an answer to the line with a number
+-- the text of the answer to the line with this number
 unfoldable pub answerText : Answer → ℕ → List ℕ → List ℕ
 answerText a line words = textIn (a .form) a line words

@@ -1,4 +1,4 @@
-// The answers of a journal's calls as text.
+// The answers to the lines of a journal, and how each is written as text.
 ghost use Prim.Native.Nat.{_+_, _*_, _≤_};
 ghost use mathlib.Core.Path.{_≡_};
 ghost use lib.ListN.{length, take, drop};
@@ -9,7 +9,7 @@ ghost use Rattle.answers.specs.Text.{keptText, closedText, paidText, ans
 
 // What the answer to a line looks like.
 pub enum Form {
-    // A comment has no answer.
+    // There is no answer, as to a comment.
     Nothing,
     // The line is no call.
     NoCall,
@@ -23,8 +23,9 @@ pub enum Form {
     Paid,
 }
 
-// The answer to a line: its form; numbers, of which the first few are shown; signed cents; how many lines of six words
-// stand in the words that were lent, how many were lent, and what they were filled with.
+// The answer to a line. It has a form, numbers of which the first `count` are shown, and signed cents. For a Close it
+// also says how many lines of six words stand in the words that were lent, how many words were lent, and with what
+// value they were filled. For a Month it says how many words were lent.
 pub struct Answer {
     pub form: Form,
     pub numbers: [u64; 7],
@@ -36,7 +37,7 @@ pub struct Answer {
 }
 
 impl Answer {
-    // Nothing is answered.
+    // No answer.
     pub fn nothing() -> Answer
         ensures { λ r. ⌜ r ≡ nothing ⌝ }
     {
@@ -51,7 +52,7 @@ impl Answer {
         }
     }
 
-    // The line is no call.
+    // The answer to a line that is no call.
     pub fn no_call() -> Answer
         ensures { λ r. ⌜ r ≡ noCall ⌝ }
     {
@@ -66,7 +67,7 @@ impl Answer {
         }
     }
 
-    // An answer number and up to two results: the first count of these.
+    // An answer number and up to two results. The first `count` of these three numbers are shown.
     pub fn numbers(count: usize, answer: u64, second: u64, third: u64) -> Answer
         ensures { λ r. ⌜ r ≡ numbersTold count answer second third ⌝ }
     {
@@ -111,7 +112,8 @@ impl Answer {
         }
     }
 
-    // An answer number and lines, in so many words that were filled.
+    // The answer to a Close: an answer number, how many lines there are, how many words were lent, and with what value
+    // they were filled.
     pub fn closed(answer: u64, lines: usize, lent: usize, fill: u64) -> Answer
         ensures { λ r. ⌜ r ≡ closedTold answer lines lent fill ⌝ }
     {
@@ -126,7 +128,7 @@ impl Answer {
         }
     }
 
-    // An answer number and so many places for payouts.
+    // The answer to a Month: an answer number, and how many places for payouts were lent.
     pub fn paid(answer: u64, lent: usize) -> Answer
         ensures { λ r. ⌜ r ≡ paidTold answer lent ⌝ }
     {
@@ -141,7 +143,7 @@ impl Answer {
         }
     }
 
-    // The numbers of an answer, and a line feed.
+    // Writes the numbers of an answer, and a line feed.
     fn tell_numbers(self, out: &mut [u8], at: usize) -> usize
         requires { ⌜ (self .count ≤ 7) × (at + 148 ≤ length (now out)) ⌝ }
         ensures { λ r. ⌜ Wrote (numbersText self) (now (out .entry)) at (now (out .exit)) r ⌝ }
@@ -151,7 +153,7 @@ impl Answer {
         writing::write_answer(out, at, &numbers[..count])
     }
 
-    // An answer number and signed cents.
+    // Writes an answer number and signed cents.
     fn tell_balance(self, out: &mut [u8], at: usize) -> usize
         requires { ⌜ at + 43 ≤ length (now out) ⌝ }
         ensures { λ r. ⌜ Wrote (balanceText self) (now (out .entry)) at (now (out .exit)) r ⌝ }
@@ -164,7 +166,7 @@ impl Answer {
         end + 1
     }
 
-    // The answer of a Close: its numbers, its lines, and how many words are kept.
+    // Writes the answer to a Close: its numbers, its lines, and how many words are kept.
     fn tell_closed(self, words: &[u64], out: &mut [u8], at: usize) -> usize
         requires { ⌜ (Tellable self (now words)) × (at + mostAnswer ≤ length (now out)) ⌝ }
         ensures { λ r. ⌜ Wrote (closedText self (now (words .entry))) (now (out .entry)) at (now (out .exit)) r ⌝ }
@@ -176,7 +178,7 @@ impl Answer {
         tell_kept(kept_of(words, 6 * lines, lent, self.fill), out, end)
     }
 
-    // The answer of a Month: its number, and on the same line the places for payouts as they are left.
+    // Writes the answer to a Month: its number, and on the same line the places for payouts as the call left them.
     fn tell_paid(self, words: &[u64], out: &mut [u8], at: usize) -> usize
         requires { ⌜ (Tellable self (now words)) × (at + mostAnswer ≤ length (now out)) ⌝ }
         ensures { λ r. ⌜ Wrote (paidText self (now (words .entry))) (now (out .entry)) at (now (out .exit)) r ⌝ }
@@ -189,7 +191,8 @@ impl Answer {
         end + 1
     }
 
-    // The answer to the line with a number, at a place of the output.
+    // Writes the answer to a line at a place of the output, and answers the next place. The number of the line is only
+    // needed if the line is no call.
     pub fn tell(self, line: u64, words: &[u64], out: &mut [u8], at: usize) -> usize
         requires { ⌜ (Tellable self (now words)) × (at + mostAnswer ≤ length (now out)) ⌝ }
         ensures { λ r. ⌜ Wrote (answerText self line (now (words .entry))) (now (out .entry)) at (now (out .exit)) r ⌝ }
@@ -206,7 +209,7 @@ impl Answer {
     }
 }
 
-// A line of a Close: six words, with two spaces in front.
+// Writes a line of a Close: six words, with two spaces in front.
 fn tell_six(words: &[u64], from: usize, out: &mut [u8], at: usize) -> usize
     requires { ⌜ (from + 6 ≤ length (now words)) × (at + 129 ≤ length (now out)) ⌝ }
     ensures { λ r. ⌜ Wrote (sixText (take 6 (drop from (now (words .entry))))) (now (out .entry)) at (now (out .exit)) r ⌝ }
@@ -216,7 +219,7 @@ fn tell_six(words: &[u64], from: usize, out: &mut [u8], at: usize) -> usize
     writing::write_answer(out, at + 2, &words[from..from + 6])
 }
 
-// The lines of a Close.
+// Writes the lines of a Close.
 fn tell_lines(words: &[u64], count: usize, out: &mut [u8], at: usize) -> usize
     requires { ⌜ (6 * count ≤ length (now words)) × (at + 129 * count ≤ length (now out)) ⌝ }
     ensures { λ r. ⌜ Wrote (linesText (now (words .entry)) count) (now (out .entry)) at (now (out .exit)) r ⌝ }
@@ -246,13 +249,10 @@ fn kept_of(words: &[u64], from: usize, to: usize, fill: u64) -> u64
     kept
 }
 
-// How many words are kept, behind the lines.
+// Writes how many words are kept, which comes after the lines.
 fn tell_kept(kept: u64, out: &mut [u8], at: usize) -> usize
     requires { ⌜ at + 28 ≤ length (now out) ⌝ }
     ensures { λ r. ⌜ Wrote (keptText kept) (now (out .entry)) at (now (out .exit)) r ⌝ }
 {
-    let next = writing::write_bytes(out, at, b"  kept ");
-    let end = writing::write_number(out, next, kept);
-    out[end] = b'\n';
-    end + 1
+    writing::write_labelled(out, at, b"  kept ", kept)
 }

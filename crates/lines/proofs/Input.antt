@@ -1,20 +1,19 @@
--- The bytes of a line that are read and held, and what is taken of the input.
+-- What is taken of the input, and which bytes of a line are held.
 use Prim.Native.Nat.{ℕ, _+_, _-_, _≤_, _<_, min}
 use native.Mathlib.Omega.{arith}
 use mathlib.Core.Path.{_≡_, sym, ap, _∙_}
-use mathlib.Core.Bool.{true, false}
 use mathlib.Core.List.{List}
 use lib.ListN.{length, take, drop, length-take, length-drop}
 use lib.Seq.{sets, take-take, length-take-le}
-use borrow.Author.Tests.{leb-true, leb-false, lt-ltb, le-ltb}
+use borrow.Author.Tests.{lt-ltb, le-ltb}
 use Rattle.basics.specs.Lists.{between}
 use Rattle.basics.proofs.Stores.{sets-cut}
-use Rattle.basics.proofs.Fronts.{between-none, up-past, up-most, up-taken}
+use Rattle.basics.proofs.Fronts.{up-most, up-taken}
 use Rattle.writing.specs.Answers.{Wrote, lineFeed}
-use Rattle.lines.specs.Input.{usedUp, upToLineFeed, ahead, lastOf, endedAt, goesOn, heldWith, takenOf}
+use Rattle.lines.specs.Input.{upToLineFeed, ahead, endedAt, goesOn, heldWith, takenOf}
 use Rattle.lines.specs.declared.Feed.{Feed}
 
--- of bytes that have no room those are held that fill it
+-- if the bytes do not all fit, the line is the same as if all were written and those past its end were dropped
 pub held-cut : (line part after : List ℕ) (held from to cut next : ℕ) → held ≤ length line → to ≤ length part
     → cut ≡ from + (length line - held) → cut ≤ to → Wrote (between from cut part) line held after next
     → (next ≡ min (length line) (held + (to - from))) × (after ≡ sets line held (between from to part))
@@ -30,27 +29,16 @@ held-cut line part after held from to cut next h l c b w =
           ∙ sets-cut line held n (between from to part) (omega arith),
     )
 
--- with all used up the input is over, and nothing more is held
-pub taken-last : (f : Feed) (part line : List ℕ) → usedUp f ≡ true
-    → (lastOf f ≡ takenOf f part (length line)) × (line ≡ sets line (f .held) (ahead f part))
-unfolding usedUp ahead takenOf
-taken-last f part line e = (rw e, rw (up-past lineFeed (between-none part (f .from) (f .to) (leb-true (f .to) (f .from) e))))
-
--- where not all is used up, something is left
-pub something-left : (f : Feed) → usedUp f ≡ false → f .from < f .to
-unfolding usedUp
-something-left f e = leb-false (f .to) (f .from) e
-
--- the end of the bytes ahead is found
-module _ (f : Feed) (part : List ℕ) (end : ℕ) (some : usedUp f ≡ false)
+-- `end` is the place where the bytes ahead end
+module _ (f : Feed) (part : List ℕ) (end : ℕ) (some : f .from ≤ f .to)
     (e : end ≡ f .from + length (upToLineFeed (between (f .from) (f .to) part))) where
-  -- they end within what was read
+  -- it lies within the bytes that were read
   pub end-within : end ≤ f .to
   end-within =
       let most : length (between (f .from) (f .to) part) ≤ f .to - f .from = simp length-take (omega arith) in
-      omega (arith, something-left f some, up-most lineFeed (between (f .from) (f .to) part))
+      omega (arith, some, up-most lineFeed (between (f .from) (f .to) part))
 
-  -- they are the bytes up to their end
+  -- the bytes up to it are the bytes ahead
   end-ahead : between (f .from) end part ≡ ahead f part
   unfolding ahead
   end-ahead =
@@ -61,26 +49,26 @@ module _ (f : Feed) (part : List ℕ) (end : ℕ) (some : usedUp f ≡ false)
       ∙ ap (λ (k : ℕ). take k left) n
       ∙ up-taken lineFeed left
 
-  -- they are held
+  -- the bytes ahead are added to the line
   module _ (line after : List ℕ) (held : ℕ) (h : held ≡ min (length line) (f .held + (end - f .from)))
       (s : after ≡ sets line (f .held) (between (f .from) end part)) where
-    -- the line is as the rule has it with them
+    -- the line is then as the definition says
     held-line : after ≡ sets line (f .held) (ahead f part)
     held-line = s ∙ ap (sets line (f .held)) end-ahead
 
-    -- as many bytes are held as the rule says
+    -- as many bytes are held as the definition says
     held-with : held ≡ heldWith (length line) f part
     unfolding heldWith ahead
     held-with = omega arith
 
-    -- a line feed behind them ends the line
+    -- if a line feed follows them, the line ends
     pub taken-ended : end < f .to
         → (endedAt end held f ≡ takenOf f part (length line)) × (after ≡ sets line (f .held) (ahead f part))
     unfolding takenOf ahead
-    taken-ended l = (rw (some, ← e, lt-ltb end (f .to) l, held-with), held-line)
+    taken-ended l = (rw (← e, lt-ltb end (f .to) l, held-with), held-line)
 
-    -- without it the line goes on
+    -- if none was read, the line goes on
     pub taken-goes-on : f .to ≤ end
         → (goesOn held f ≡ takenOf f part (length line)) × (after ≡ sets line (f .held) (ahead f part))
     unfolding takenOf ahead
-    taken-goes-on l = (rw (some, ← e, le-ltb end (f .to) l, held-with), held-line)
+    taken-goes-on l = (rw (← e, le-ltb end (f .to) l, held-with), held-line)

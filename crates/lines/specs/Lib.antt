@@ -1,3 +1,3 @@
--- What is taken from the input. Input: where the input stands, and the bytes of a line. Text: a text, cut into lines.
+-- The lines of the input. Input: where the input stands, and what is taken from it. Text: how a text is cut into lines.
 pub mod Input
 pub mod Text

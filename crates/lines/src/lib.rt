@@ -1,34 +1,33 @@
-// The input, line by line. What was read is taken up to the next line feed, and the bytes of the line under way are
-// held until the line has ended.
+// The input, line by line. The bytes that were read are taken up to the next line feed, and those of the current line
+// are held in a buffer until the line has ended.
 ghost use mathlib.Core.Path.{_≡_};
 ghost use Prim.Native.Nat.{_+_, _≤_, min, _-_};
 ghost use lib.ListN.{length};
 ghost use lib.Seq.{sets};
 ghost use Rattle.basics.specs.Lists.{between};
-ghost use Rattle.lines.specs.Input.{atStart, usedUp, filledTo, oneMore, upToLineFeed, ahead, lastOf, takenOf};
+ghost use Rattle.lines.specs.Input.{atStart, usedUp, filledTo, droppedFrom, linesOf, oneMore, upToLineFeed, ahead, takenOf};
 
-// Where the input stands.
+// Where the input stands: which bytes were read and not yet taken, and how far the current line has come.
 pub struct Feed {
-    // The bytes that were read and not yet taken, by their places.
+    // The bytes that were read and not yet taken stand in the places from `from` up to `to`, without `to`.
     pub from: usize,
     pub to: usize,
-    // How many bytes of the line under way are held.
+    // How many bytes of the current line are held.
     pub held: usize,
-    // How many lines ended so far; the end of the input counts as one.
+    // How many lines have ended so far.
     pub ended: u64,
 }
 
-// What was taken from the input.
+// What was taken from the input, and where the input stands then.
 pub struct Taken {
     pub feed: Feed,
-    // Whether the line under way has ended, and how many bytes of it are held.
+    // Whether the current line has ended, and how many bytes of it are held if it has.
     pub ends: bool,
     pub size: usize,
-    // Whether the input is over.
-    pub over: bool,
 }
 
-// One more line. No journal has as many as a number holds.
+// The number of lines after one more has ended. No journal has as many lines as a number of 64 bits can count, so it
+// does not matter that the count stops there.
 fn one_more(ended: u64) -> u64
     ensures { λ r. ⌜ r ≡ oneMore ended ⌝ }
 {
@@ -38,7 +37,7 @@ fn one_more(ended: u64) -> u64
     ended
 }
 
-// The place of the next line feed, or the end of what was read.
+// The place of the next line feed, or the end of the bytes that were read.
 fn line_end(part: &[u8], from: usize, to: usize) -> usize
     requires { ⌜ (from ≤ to) × (to ≤ length (now part)) ⌝ }
     ensures { λ r. ⌜ r ≡ from + length (upToLineFeed (between from to (now (part .entry)))) ⌝ }
@@ -53,8 +52,8 @@ fn line_end(part: &[u8], from: usize, to: usize) -> usize
     at
 }
 
-// Bytes are added to the line under way. What the line has no place for is let go: such a line is
-// no call, or a comment.
+// Adds bytes to the current line, and answers how many bytes of it are held. Bytes that have no place are dropped,
+// because a line of that length is a comment or no call, whatever follows.
 fn hold(line: &mut [u8], held: usize, part: &[u8], from: usize, to: usize) -> usize
     requires { ⌜ (held ≤ length (now line)) × (from ≤ to) × (to ≤ length (now part)) ⌝ }
     ensures { λ r. ⌜ r ≡ min (length (now (line .entry))) (held + (to - from)) ⌝ }
@@ -69,7 +68,7 @@ fn hold(line: &mut [u8], held: usize, part: &[u8], from: usize, to: usize) -> us
 }
 
 impl Feed {
-    // Nothing is read yet.
+    // The feed before anything is read.
     pub fn start() -> Feed
         ensures { λ r. ⌜ r ≡ atStart ⌝ }
     {
@@ -81,14 +80,14 @@ impl Feed {
         }
     }
 
-    // Whether all that was read is taken.
+    // Whether all bytes that were read are taken.
     pub fn is_used_up(self) -> bool
         ensures { λ r. ⌜ r ≡ usedUp self ⌝ }
     {
         self.to <= self.from
     }
 
-    // As many bytes were read anew, none if the input is over.
+    // The feed after a read that brought `to` bytes.
     pub fn filled(self, to: usize) -> Feed
         ensures { λ r. ⌜ r ≡ filledTo to self ⌝ }
     {
@@ -100,33 +99,34 @@ impl Feed {
         }
     }
 
-    // The input is over. A last line that lacks its line feed ends with it.
-    fn last(self) -> Taken
-        ensures { λ r. ⌜ r ≡ lastOf self ⌝ }
+    // Drops the bytes that were read and not yet taken, because the run has failed.
+    pub fn dropped(self) -> Feed
+        ensures { λ r. ⌜ r ≡ droppedFrom self ⌝ }
     {
-        Taken {
-            feed: Feed {
-                from: self.to,
-                to: self.to,
-                held: 0,
-                ended: one_more(self.ended),
-            },
-            ends: 0 < self.held,
-            size: self.held,
-            over: true,
+        Feed {
+            from: self.to,
+            to: self.to,
+            held: self.held,
+            ended: self.ended,
         }
     }
 
-    // Bytes of the line under way are taken: up to its end, or to the end of what was read. With nothing to take the
-    // input is over.
+    // How many lines the text has, once it is over. Bytes that are still held are a last line without its line feed.
+    pub fn lines(self) -> u64
+        ensures { λ r. ⌜ r ≡ linesOf self ⌝ }
+    {
+        if 0 < self.held {
+            return one_more(self.ended);
+        }
+        self.ended
+    }
+
+    // Takes bytes of the current line: up to its line feed, or all that were read if there is none.
     pub fn take(self, part: &[u8], line: &mut [u8]) -> Taken
-        requires { ⌜ (self .to ≤ length (now part)) × (self .held ≤ length (now line)) ⌝ }
+        requires { ⌜ (self .from ≤ self .to) × (self .to ≤ length (now part)) × (self .held ≤ length (now line)) ⌝ }
         ensures { λ r. ⌜ r ≡ takenOf self (now (part .entry)) (length (now (line .entry))) ⌝ }
         ensures { λ r. ⌜ now (line .exit) ≡ sets (now (line .entry)) (self .held) (ahead self (now (part .entry))) ⌝ }
     {
-        if self.is_used_up() {
-            return self.last();
-        }
         let end = line_end(part, self.from, self.to);
         let held = hold(line, self.held, part, self.from, end);
         if end < self.to {
@@ -139,7 +139,6 @@ impl Feed {
                 },
                 ends: true,
                 size: held,
-                over: false,
             };
         }
         Taken {
@@ -151,7 +150,6 @@ impl Feed {
             },
             ends: false,
             size: 0,
-            over: false,
         }
     }
 }

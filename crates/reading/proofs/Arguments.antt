@@ -1,4 +1,4 @@
--- What a caller of `read_line` knows of a call: its numbers are the first ones, and its lists have their places.
+-- What a caller of `read_line` knows about a call: its arguments are the first numbers, and its lists lie within them.
 use Prim.Native.Nat.{ℕ, _+_, _≤_}
 use native.Mathlib.Omega.{arith}
 use mathlib.Core.Path.{_≡_, refl, sym, ap, _∙_}
@@ -54,7 +54,7 @@ shape-within name ns e = by (leb (length ns) mostNumbers) refl
     by false f =
         absurd (never (sym (shape-most name ns (leb-false (length ns) mostNumbers f)) ∙ e))
 
--- of a call, the first numbers are the arguments that the line says, and have its shape
+-- if a line is a call, the first numbers are the arguments that it has, and they have the shape of the call
 pub call-arguments : (line places after : List ℕ) (name : Name) (count : ℕ) {r : Line} → mostNumbers ≤ length places
     → r ≡ Call name count → Understood line places after r
     → (meaningOf line ≡ call name (take count after)) × (shapeRight name (take count after) ≡ true)
@@ -84,7 +84,7 @@ listed-one n ns e =
     let both = and-true (leb n mostListed) (listable ns) e in
     (leb-true n mostListed (both .0), both .1)
 
--- what the first numbers are that have the shape of a call
+-- what is known about the first numbers if they have the shape of a call
 module _ (places : List ℕ) (count : ℕ) (within : count ≤ length places) where
   shaped : (name : Name) → shapeRight name (take count places) ≡ true
       → (count ≡ counted name (take count places)) × (listable (listsOf name (take count places)) ≡ true)
@@ -115,7 +115,7 @@ module _ (places : List ℕ) (count : ℕ) (within : count ≤ length places) wh
       let listed = listed-one (getD (take count places) 2 0) [] (s .1) in
       (s .0, omega (arith, listed .0))
 
-  -- a month: the first number says how many amounts follow, and behind them stands how many places there are
+  -- a month: the first number says how many amounts follow, and the number after these says how many places there are
   pub month-listed : shapeRight Month (take count places) ≡ true
       → (count ≡ 3 + getD places 0 0) × (getD places 0 0 ≤ mostListed)
       × (getD places (getD places 0 0 + 1) 0 ≤ mostListed)

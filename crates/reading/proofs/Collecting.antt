@@ -19,7 +19,7 @@ use Rattle.reading.specs.declared.Count.{Count}
 use Rattle.reading.specs.declared.Count.the-variants.{All, NotAll}
 use Rattle.reading.proofs.Splitting.{word-within, last-word, more-words, more-within}
 
--- a number with the place behind it is the word that begins at a place
+-- if the word that begins at a place was read as a number, it has that value and ends at that place
 word-number : (line : List ℕ) (at value end : ℕ) → Number value end ≡ wordAt line at
     → (numberOf (firstWord (drop at line)) ≡ some value) × (end ≡ at + length (firstWord (drop at line)))
 unfolding wordAt wordOf
@@ -31,7 +31,7 @@ word-number line at value end e = by (numberOf (firstWord (drop at line))) refl 
     by none f g = absurd (let z : _≡_ {A = ℕ} 0 1 = cc in omega arith)
     by (some n) f g = (cc, cc)
 
--- the word that begins at a place is no number
+-- if the word that begins at a place was not read as a number, it is no number
 word-none : (line : List ℕ) (at : ℕ) → NoNumber ≡ wordAt line at → numberOf (firstWord (drop at line)) ≡ none
 unfolding wordAt wordOf
 word-none line at e = by (numberOf (firstWord (drop at line))) refl e
@@ -42,7 +42,7 @@ word-none line at e = by (numberOf (firstWord (drop at line))) refl e
     by none f g = f
     by (some n) f g = absurd (let z : _≡_ {A = ℕ} 0 1 = cc in omega arith)
 
--- numbers behind others, if there are such
+-- the numbers xs and then others, if there are others
 pub behind : List ℕ → Option (List ℕ) → Option (List ℕ)
 behind xs none = none
 behind xs (some ns) = some (xs ++ ns)
@@ -57,8 +57,8 @@ unfolding behind withNumber
 behind-one xs n none = refl
 behind-one xs n (some ns) = ap some (sym (append-snoc xs n ns))
 
--- The words from one place up to another are numbers, and stand in the first places: with what is left of the line they
--- give what the words from the first place on give.
+-- The words from one place of the line up to another are numbers, and these stand in the first places of the buffer.
+-- With the numbers of the rest of the line they are the numbers of all words from the first place on.
 pub record Collected (line : List ℕ) (start : ℕ) (places numbers : List ℕ) (at count : ℕ) : Type 0 where
   pub so-far : List ℕ
   pub within : at ≤ length line
@@ -68,7 +68,7 @@ pub record Collected (line : List ℕ) (start : ℕ) (places numbers : List ℕ)
   pub all : numbersOf (wordsOf (drop start line)) ≡ behind so-far (numbersOf (wordsOf (drop at line)))
   pub front : numbersAhead (wordsOf (drop start line)) ≡ so-far ++ numbersAhead (wordsOf (drop at line))
 
--- no number is read yet
+-- this holds before the first number is read
 pub collected-none : (line : List ℕ) (start : ℕ) (places : List ℕ)
     → start ≤ length line → Collected line start places places start 0
 collected-none line start places h = record {
@@ -81,7 +81,7 @@ collected-none line start places h = record {
   front = refl;
 }
 
--- what was asked of all words from a place on, and of the places
+-- what the contract of `read_numbers` says about its answer and about the buffer
 abbrev Outcome : List ℕ → ℕ → List ℕ → List ℕ → Count → Type 0
 Outcome line start places after r =
     (r ≡ fewOf (length places) (numbersOf (wordsOf (drop start line))))
@@ -109,11 +109,11 @@ more-than places xs (some ns) (some n) h =
 
 module _ (line : List ℕ) (start : ℕ) (places numbers : List ℕ) (at count : ℕ)
     (c : Collected line start places numbers at count) where
-  -- there are as many places as before
+  -- the buffer has as many places as before
   pub collected-length : length numbers ≡ length places
   collected-length = ap length (c .stand) ∙ length-sets places 0 (c .so-far)
 
-  -- a word is no number
+  -- the contract holds if a word is no number
   pub collected-fails : NoNumber ≡ wordAt line at → Outcome line start places numbers NotAll
   unfolding wordsOf numbersOf withNumber numbersAhead ifNumber behind
   collected-fails w =
@@ -131,7 +131,7 @@ module _ (line : List ℕ) (start : ℕ) (places numbers : List ℕ) (at count :
   longer : (value : ℕ) → count + 1 ≡ length (c .so-far ++ value ∷ [])
   longer value = omega (arith, c .filled, length-append (c .so-far) (value ∷ []))
 
-  -- there is no place for a further number
+  -- the contract holds if there is no place for another number
   pub collected-full : length places ≤ count → Outcome line start places numbers NotAll
   unfolding wordsOf numbersOf
   collected-full h = (
@@ -158,7 +158,7 @@ module _ (line : List ℕ) (start : ℕ) (places numbers : List ℕ) (at count :
     collected-within = omega (arith, ends, word-within line at (c .within))
 
     module _ (h : count < length places) where
-      -- the last word is a number
+      -- the contract holds if the last word is a number
       pub collected-last : end ≡ length line → Outcome line start places (set numbers count value) (All (count + 1))
       unfolding wordsOf numbersOf withNumber numbersAhead ifNumber behind
       collected-last l =
@@ -168,7 +168,7 @@ module _ (line : List ℕ) (start : ℕ) (places numbers : List ℕ) (at count :
           let front : numbersAhead (wordsOf (drop start line)) ≡ ns = c .front ∙ rw (number, last) in
           (rw (all, longer value) (few-all (length places) ns (omega (arith, longer value))), rw front (stored value))
 
-      -- a word is a number, and further words follow
+      -- the loop goes on if a word is a number and further words follow
       pub collected-more : (end ≡ length line → ⊥)
           → Collected line start places (set numbers count value) (end + 1) (count + 1)
       unfolding wordsOf numbersOf numbersAhead ifNumber

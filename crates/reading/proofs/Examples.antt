@@ -1,4 +1,4 @@
--- Lines of a journal, each with what it says.
+-- Examples: words and lines of a journal, each with what it says.
 use Prim.Native.Nat.{_^_, _-_}
 use mathlib.Core.Path.{_≡_, refl}
 use mathlib.Core.Bool.{true, false}
@@ -29,23 +29,23 @@ largest : numberOf (digitsOf (2 ^ 64 - 1)) ≡ some (2 ^ 64 - 1)
 unfolding isDigit onlyDigits valueFrom numberOf digitsWithin digitsOf
 largest = refl
 
--- 18446744073709551616 is none
+-- 18446744073709551616 is no number
 too-large : numberOf (digitsOf (2 ^ 64)) ≡ none
 unfolding isDigit onlyDigits valueFrom numberOf digitsWithin digitsOf
 too-large = refl
 
--- -120
+-- -120 is written with a minus sign
 negative : signedOf (negsuc 119) ≡ 45 ∷ 49 ∷ 50 ∷ 48 ∷ []
 unfolding digitsWithin digitsOf signedOf
 negative = refl
 
--- look 31
+-- `look 31` is a call
 a-look : meaningOf (108 ∷ 111 ∷ 111 ∷ 107 ∷ 32 ∷ 51 ∷ 49 ∷ []) ≡ call Look (31 ∷ [])
 unfolding isDigit onlyDigits valueFrom numberOf upTo furtherWords sameWord namings found nameOf counted listsOf
     listable shapeRight withNumber numbersOf isComment callWith meaningOf
 a-look = refl
 
--- look with two spaces
+-- `look` with two spaces before its number is no call
 two-spaces : meaningOf (108 ∷ 111 ∷ 111 ∷ 107 ∷ 32 ∷ 32 ∷ 51 ∷ []) ≡ no-call
 unfolding isDigit onlyDigits valueFrom numberOf upTo furtherWords sameWord namings found nameOf counted listsOf
     listable shapeRight withNumber numbersOf isComment callWith meaningOf
@@ -56,23 +56,23 @@ space-behind : wordsOf (51 ∷ 32 ∷ []) ≡ (51 ∷ []) ∷ [] ∷ []
 unfolding upTo furtherWords wordsOf
 space-behind = refl
 
--- a blank before #
+-- a line with a space before its # is no call
 blank-before : meaningOf (32 ∷ 35 ∷ []) ≡ no-call
 unfolding isDigit onlyDigits valueFrom numberOf upTo furtherWords sameWord namings found nameOf counted listsOf
     listable shapeRight withNumber numbersOf isComment callWith meaningOf
 blank-before = refl
 
--- month 2 5 6 3 9: two amounts, and three places
+-- `month 2 5 6 3 9` has two amounts and three places
 a-month : shapeRight Month (2 ∷ 5 ∷ 6 ∷ 3 ∷ 9 ∷ []) ≡ true
 unfolding counted listsOf listable shapeRight
 a-month = refl
 
--- open 7 10 1: its one closed day is missing
+-- `open 7 10 1` is no call, because its one closed day is missing
 day-missing : shapeRight Open (7 ∷ 10 ∷ 1 ∷ []) ≡ false
 unfolding counted listsOf listable shapeRight
 day-missing = refl
 
--- close 1 2 4097 0: the list is too long
+-- `close 1 2 4097 0` is no call, because its list is too long
 list-too-long : shapeRight Close (1 ∷ 2 ∷ 4_097 ∷ 0 ∷ []) ≡ false
 unfolding counted listsOf listable shapeRight
 list-too-long = refl

@@ -1,7 +1,8 @@
--- The laws of what is read. Examples: lines with what they say. RoundTrips: what is written reads back, numbers, words
--- and whole calls. Values: of the number that a word is. Arguments: what a caller of `read_line` knows of a call.
--- Splitting and Spelling: of words. Shapes: of the numbers that a call has. Understanding: of whole lines. Long: of lines
--- too long for a call. Reading and Collecting: the loops that read a number, and the numbers of a line.
+-- Laws of reading. Examples: words and lines with what they say. RoundTrips: numbers, words and whole calls that are
+-- written are read back the same. Values: the number that a word is. Arguments: what a caller of `read_line` knows
+-- about a call. Splitting: how lines are split into words. Spelling: how words are compared. Shapes: the numbers that a
+-- call has. Understanding: what a whole line says. Long: lines that are too long for a call. Reading and Collecting:
+-- the loops that read a number, and the numbers of a line.
 pub mod Splitting
 pub mod Spelling
 pub mod Reading

@@ -1,4 +1,4 @@
--- Lines that are longer than a call's may be.
+-- Lines that are longer than a call's line may be.
 use Prim.Native.Nat.{ℕ, zero, suc, _<_}
 use native.Mathlib.Omega.{arith}
 use mathlib.Core.Path.{_≡_, refl, ap}
@@ -10,7 +10,7 @@ use lib.Seq.{take-all}
 use borrow.Author.Tests.{ltb-true, ltb-false, lt-ltb}
 use Rattle.reading.specs.Lines.{isComment, mostBytes, meaningOf}
 
--- A line says the same if it is cut behind more bytes than a call's line may have.
+-- A line says the same if it is cut, as long as more bytes are left than a call's line may have.
 pub meaning-cut : (n : ℕ) (line : List ℕ) → mostBytes < n → meaningOf (take n line) ≡ meaningOf line
 unfolding meaningOf isComment
 meaning-cut zero line h = absurd (omega arith)

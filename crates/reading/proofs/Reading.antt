@@ -1,4 +1,4 @@
--- The loop that reads a number: one digit after another.
+-- The loop that reads a number, one digit after another.
 use Prim.Native.Nat.{ℕ, _+_, _-_, _*_, _^_, _≤_, _<_}
 use native.Mathlib.Omega.{arith}
 use mathlib.Core.Path.{_≡_, refl, sym, ap, _∙_}
@@ -16,7 +16,7 @@ use Rattle.reading.specs.Words.{firstWord}
 use Rattle.reading.specs.Found.{wordOf, wordAt}
 use Rattle.reading.specs.declared.Word.the-variants.{Number, NoNumber}
 
--- the number that a word gives when it is read on from a value
+-- the number that digits with the value v make together with the word that follows them
 pub readOn : ℕ → List ℕ → Option ℕ
 readOn v w = pick (onlyDigits w && ltb (valueFrom v w) (2 ^ 64)) (some (valueFrom v w)) none
 
@@ -61,8 +61,8 @@ no-number : (t : Bool) (o : Option ℕ) → o ≡ none → pick t o none ≡ non
 no-number true o e = e
 no-number false o e = refl
 
--- a word that begins at one place is read up to another: what is left of it, read on from the value, gives what the
--- whole word gives
+-- A word that begins at one place is read up to another. The value so far, with what is left of the word, gives the
+-- same number as the whole word.
 pub record Read (line : List ℕ) (start value at : ℕ) : Type 0 where
   pub within : at ≤ length line
   pub behind : start ≤ at
@@ -70,7 +70,7 @@ pub record Read (line : List ℕ) (start value at : ℕ) : Type 0 where
   pub place : start + length (firstWord (drop start line)) ≡ at + length (firstWord (drop at line))
   pub gives : readOn 0 (firstWord (drop start line)) ≡ readOn value (firstWord (drop at line))
 
--- nothing is read yet
+-- this holds before the first byte is read
 pub read-begins : (line : List ℕ) (start : ℕ) → start ≤ length line → Read line start 0 start
 read-begins line start h = record {
   within = h;
@@ -92,7 +92,7 @@ digit-above : (b : ℕ) → 57 < b → isDigit b ≡ false
 unfolding isDigit
 digit-above b h = rw (lt-ltb 47 b (omega arith), le-ltb b 58 (omega arith))
 
--- a word of n digits
+-- a word of n digits is a number unless n is 0
 ended : (value start at n : ℕ) → start + n ≡ at
     → pick (eqb at start) NoNumber (Number value at) ≡ wordOf (pick (ltb 0 n) (some value) none) (start + n)
 unfolding wordOf
@@ -104,7 +104,7 @@ ended value start at n e = by (ltb 0 n) refl
     by false f = let l = ltb-false 0 n f in rw (eq-eqb at start (omega arith))
 
 module _ (line : List ℕ) (start value at : ℕ) (r : Read line start value at) where
-  -- the word ends here
+  -- if the word ends here, the value is its number
   pub read-ends : firstWord (drop at line) ≡ []
       → pick (eqb at start) NoNumber (Number value at) ≡ wordAt line start
   unfolding wordAt
@@ -124,7 +124,7 @@ module _ (line : List ℕ) (start value at : ℕ) (r : Read line start value at)
     goes-on : firstWord (drop at line) ≡ getD line at 0 ∷ firstWord (drop (at + 1) line)
     goes-on = up-goes-on space (drop-more line at 0 h) other
 
-    -- a byte is no digit
+    -- if a byte is no digit, the word is no number
     pub read-below : getD line at 0 < 48 → NoNumber ≡ wordAt line start
     read-below l =
         fails (ap (readOn value) goes-on
@@ -135,13 +135,13 @@ module _ (line : List ℕ) (start value at : ℕ) (r : Read line start value at)
         fails (ap (readOn value) goes-on
         ∙ on-other value (getD line at 0) (firstWord (drop (at + 1) line)) (digit-above (getD line at 0) l))
 
-    -- the value does not fit 64 bits
+    -- if the value does not fit 64 bits, the word is no number
     pub read-large : 2 ^ 64 ≤ value * 10 + (getD line at 0 - 48) → NoNumber ≡ wordAt line start
     read-large l =
         fails (ap (readOn value) goes-on
         ∙ on-large value (getD line at 0) (firstWord (drop (at + 1) line)) l)
 
-    -- a digit is read
+    -- the loop goes on if the byte is a digit and the value fits
     pub read-goes-on : 48 ≤ getD line at 0 → getD line at 0 ≤ 57 → value * 10 + (getD line at 0 - 48) < 2 ^ 64
         → Read line start (value * 10 + (getD line at 0 - 48)) (at + 1)
     read-goes-on l m s = record {

@@ -1,4 +1,4 @@
--- What is written reads back: numbers, words, and whole calls.
+-- Numbers, words and whole calls that are written are read back the same.
 use Prim.Native.Nat.{ℕ, zero, suc, _+_, _*_, _/_, _%_, _^_, _≤_, _<_}
 use native.Mathlib.Nat.{div-add-mod'}
 use native.Mathlib.Omega.{arith}
@@ -64,7 +64,7 @@ digits-only (suc k) n =
     (λ e. only-append (digitsWithin k (n / 10)) (digit (n % 10) ∷ []) (digits-only k (n / 10))
     (only-one (n % 10) (omega arith)))
 
--- a number that is written reads back
+-- a number that is written is read back the same
 pub digits-read : (n : ℕ) → n < 2 ^ 64 → numberOf (digitsOf n) ≡ some n
 unfolding numberOf digitsOf
 digits-read n h =
@@ -95,7 +95,7 @@ unfolding furtherWords
 further-alone w nobody = refl
 further-alone w (also {x = b} {xs = bs} p ps) = rw (ne-eqb b space p) (further-alone bs ps)
 
--- the words of a line that is made of words are these
+-- if a line is made of words, these are the words that are read from it
 pub joined-words : (w : List ℕ) (ws : List (List ℕ)) → Spaceless w → Every Spaceless ws
     → wordsOf (joined (w ∷ ws)) ≡ w ∷ ws
 unfolding wordsOf joined spaced
@@ -135,19 +135,19 @@ unfolding digitsOf
 texts-spaceless [] = nobody
 texts-spaceless (n ∷ ns) = also (digits-spaceless (digitsOf n) (digits-only 20 n)) (texts-spaceless ns)
 
--- the numbers of written numbers are these
+-- numbers that are written are read back the same
 pub texts-read : (ns : List ℕ) → Numbers ns → numbersOf (map digitsOf ns) ≡ some ns
 unfolding numbersOf withNumber
 texts-read ns nobody = refl
 texts-read ns (also {x = n} {xs = ms} p ps) = rw (digits-read n p, texts-read ms ps)
 
--- what makes an entry of the table of names of use: its word names its call, is one word, and begins no comment
+-- an entry of the table of names can be used: its word names its call, is a single word, and does not begin a comment
 abbrev Usable : Naming → Type 0
 Usable x =
     (nameOf (x .word) ≡ some (x .name)) × (firstWord (x .word) ≡ x .word)
     × ((rest : List ℕ) → isComment (x .word ++ rest) ≡ false)
 
--- every name of the table is of use: no word of it stands for two calls
+-- every entry of the table can be used; in particular no word of it stands for two calls
 pub usable : Every Usable namings
 unfolding sameWord namings found nameOf upTo isComment
 usable =
@@ -160,13 +160,14 @@ usable =
     (also (refl, refl, λ r. refl)
     (also (refl, refl, λ r. refl)
     (also (refl, refl, λ r. refl)
-    (also (refl, refl, λ r. refl) (also (refl, refl, λ r. refl) nobody))))))))))
+    (also (refl, refl, λ r. refl)
+    (also (refl, refl, λ r. refl) (also (refl, refl, λ r. refl) nobody)))))))))))
 
--- a call as it is written: its name and its arguments, with one space between two
+-- a call as it is written: its name and its arguments, with one space between two words
 abbrev pub written : Naming → List ℕ → List ℕ
 written x ns = joined (x .word ∷ map digitsOf ns)
 
--- A call that is written is read as that call: of every name, with every arguments of its shape.
+-- A call that is written is read as that call, for every list of arguments that has its shape.
 pub WrittenReads : Naming → Type 0
 WrittenReads x =
     (ns : List ℕ) → Numbers ns → shapeRight (x .name) ns ≡ true → length (written x ns) ≤ mostBytes

@@ -1,16 +1,21 @@
--- The shapes of calls, as they are tested: the numbers are the first of an array of places.
+-- The shapes of calls, in the way the program tests them: the arguments are the first numbers of a buffer.
 use Prim.Native.Nat.{ℕ, _+_, _≤_, _<_}
 use native.Mathlib.Omega.{arith}
 use mathlib.Core.Path.{_≡_, refl, sym, _∙_}
 use mathlib.Core.Bool.{Bool, true, false, _&&_}
 use mathlib.Core.List.{List, []}
+use mathlib.Core.Option.{some}
 use lib.Dec.{eqb, leb}
 use lib.ListN.{length, getD, take}
 use lib.Seq.{length-take-le, getD-take}
 use borrow.Author.Tests.{eq-eqb, ne-eqb, le-leb, lt-leb, leb-true}
 use Rattle.reading.specs.Calls.{mostListed, mostNumbers, counted, listsOf, listable, shapeRight}
+use Rattle.basics.specs.Choice.{pick}
+use Rattle.reading.specs.Lines.{call, no-call, callWith, lineOf}
+use Rattle.reading.specs.Found.{shapedAs}
+use Rattle.reading.specs.declared.Line.the-variants.{Call, NoCall}
 use Rattle.reading.specs.declared.Name.{Name}
-use Rattle.reading.specs.declared.Name.the-variants.{Open, Enter, Withdraw, Cancel, Deliver, Offer, Close, Month, Status, Account, Look}
+use Rattle.reading.specs.declared.Name.the-variants.{Open, Enter, Withdraw, Cancel, Deliver, Offer, Close, Month, Status, Account, Look, Rules}
 
 and-true : (t : Bool) → (t && true) ≡ t
 and-true true = refl
@@ -31,7 +36,7 @@ module _ (places : List ℕ) (count : ℕ) (room : count ≤ length places) wher
   unfolding shapeRight listable
   shape-fixed name told k e c l = rw (e, size, c, l) (sym (and-true (eqb count k)))
 
-  -- too few numbers for a list and what stands beside it
+  -- an open with fewer than three numbers does not have the right shape
   pub open-few : count < 3 → false ≡ shapeRight Open (take count places)
   unfolding shapeRight counted
   open-few h = rw (size, ne-eqb count (3 + getD (take count places) 2 0) (λ e. omega arith))
@@ -41,7 +46,7 @@ module _ (places : List ℕ) (count : ℕ) (room : count ≤ length places) wher
   month-few h = rw (size, ne-eqb count (3 + getD (take count places) 0 0) (λ e. omega arith))
 
   module _ (some : 3 ≤ count) where
-    -- a list that is too long
+    -- neither does an open with a list that is too long
     pub open-long : mostListed < getD places 2 0 → false ≡ shapeRight Open (take count places)
     unfolding shapeRight listsOf listable
     open-long h =
@@ -61,7 +66,7 @@ module _ (places : List ℕ) (count : ℕ) (room : count ≤ length places) wher
         rw (getD-take count places 0 0 (omega arith), lt-leb (getD places 0 0) mostListed h)
         (sym (and-false (eqb (length (take count places)) (counted Month (take count places)))))
 
-    -- another count than the list says
+    -- neither does a month with another count of numbers than its first number says
     pub month-other : (count ≡ 3 + getD places 0 0 → ⊥) → false ≡ shapeRight Month (take count places)
     unfolding shapeRight counted
     month-other h = rw (size, getD-take count places 0 0 (omega arith), ne-eqb count (3 + getD places 0 0) h)
@@ -107,6 +112,7 @@ counted-most Month ns e = omega (arith, leb-true (getD ns 0 0) mostListed (first
 counted-most Status ns e = omega arith
 counted-most Account ns e = omega arith
 counted-most Look ns e = omega arith
+counted-most Rules ns e = omega arith
 
 -- no call has more numbers than an open or a month with the longest list
 pub shape-most : (name : Name) (ns : List ℕ) → mostNumbers < length ns → shapeRight name ns ≡ false
@@ -119,17 +125,11 @@ shape-most name ns h = by (listable (listsOf name ns)) refl
         rw (ne-eqb (length ns) (counted name ns) (λ z. omega arith))
     by false e = and-false (eqb (length ns) (counted name ns))
 
--- every call has a number
-pub shape-none : (name : Name) → shapeRight name [] ≡ false
-unfolding shapeRight counted
-shape-none Open = refl
-shape-none Enter = refl
-shape-none Withdraw = refl
-shape-none Cancel = refl
-shape-none Deliver = refl
-shape-none Offer = refl
-shape-none Close = refl
-shape-none Month = refl
-shape-none Status = refl
-shape-none Account = refl
-shape-none Look = refl
+-- what a line is whose name and numbers were read
+pub line-shaped : (name : Name) (ns : List ℕ) → shapedAs name ns ≡ lineOf (callWith (some name) (some ns))
+unfolding shapedAs callWith lineOf
+line-shaped name ns = by (shapeRight name ns)
+  where
+    by : (t : Bool) → pick t (Call name (length ns)) NoCall ≡ lineOf (pick t (call name ns) no-call)
+    by true = refl
+    by false = refl

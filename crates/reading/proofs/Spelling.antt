@@ -1,4 +1,4 @@
--- Two words that are compared byte by byte.
+-- How two words are compared byte by byte, and how a word is looked up in the table of names.
 use Prim.Native.Nat.{ℕ, _+_, _≤_, _<_}
 use native.Mathlib.Omega.{arith}
 use native.Mathlib.Numerals.{add-one}
@@ -31,28 +31,28 @@ module _ (us vs : List ℕ) (i : ℕ) where
   unfolding sameWord
   same-step h k = rw (add-one i, drop-cons us i 0 h, drop-cons vs i 0 k)
 
-  -- one byte that differs
+  -- if one byte differs, the words are not the same
   pub same-differs : i < length us → i < length vs → (getD us i 0 ≡ getD vs i 0 → ⊥)
       → sameWord (drop i us) (drop i vs) ≡ false
   same-differs h k e = same-step h k ∙ rw (ne-eqb (getD us i 0) (getD vs i 0) e)
 
-  -- one byte that is the same
+  -- if a byte is the same in both, the bytes after it decide
   pub same-goes-on : i < length us → i < length vs → getD us i 0 ≡ getD vs i 0
       → sameWord (drop (i + 1) us) (drop (i + 1) vs) ≡ sameWord (drop i us) (drop i vs)
   same-goes-on h k e = sym (same-step h k ∙ rw (eq-eqb (getD us i 0) (getD vs i 0) e))
 
-  -- every byte was the same
+  -- if every byte was the same, the words are the same
   pub same-past : length us ≤ i → length vs ≤ i → sameWord (drop i us) (drop i vs) ≡ true
   unfolding sameWord
   same-past h k = rw (drop-of-length-le us {i = i} h, drop-of-length-le vs {i = i} k)
 
--- the first entry has the word
+-- if the first entry has the word, its name is found
 pub found-here : (w : List ℕ) (x : Naming) (xs : List Naming) (t : Bool) → t ≡ sameWord w (x .word) → t ≡ true
     → found w (x ∷ xs) ≡ some (x .name)
 unfolding found
 found-here w x xs t e f = rw (sym e ∙ f)
 
--- the first entry has another word
+-- if the first entry has another word, the other entries are searched
 pub found-later : (w : List ℕ) (x : Naming) (xs : List Naming) (t : Bool) → t ≡ sameWord w (x .word) → t ≡ false
     → found w (x ∷ xs) ≡ found w xs
 unfolding found

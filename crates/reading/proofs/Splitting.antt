@@ -1,4 +1,4 @@
--- Lines that are split into words.
+-- How a line is split into words.
 use Prim.Native.Nat.{ℕ, suc, _+_, _≤_}
 use native.Mathlib.Nat.{suc-add}
 use native.Mathlib.Omega.{arith}
@@ -26,7 +26,7 @@ further-none (b ∷ bs) h = by (eqb b space) h (further-none bs)
     by true e rest = absurd (omega arith)
     by false e rest = rest (omega arith)
 
--- the further words of a line are the words behind its first space
+-- the further words of a line are the words after its first space
 pub further-some : (bs : List ℕ) → (length (firstWord bs) ≡ length bs → ⊥)
     → furtherWords bs ≡ wordsOf (drop (length (firstWord bs) + 1) bs)
 unfolding upTo furtherWords wordsOf
@@ -47,19 +47,19 @@ module _ (line : List ℕ) (at : ℕ) (within : at ≤ length line) where
   pub word-within : at + length (firstWord (drop at line)) ≤ length line
   word-within = omega (arith, up-most space (drop at line), length-drop at line)
 
-  -- no word stands behind one that ends with the line
+  -- no word follows one that ends at the end of the line
   pub last-word : at + length (firstWord (drop at line)) ≡ length line → furtherWords (drop at line) ≡ []
   last-word e = further-none (drop at line) (omega (arith, length-drop at line))
 
   module _ (more : at + length (firstWord (drop at line)) ≡ length line → ⊥) where
-    -- behind any other word stands one byte at least
+    -- after any other word there is at least one byte more
     pub more-within : at + length (firstWord (drop at line)) + 1 ≤ length line
     more-within = apart (at + length (firstWord (drop at line))) (length line) word-within more
       where
         apart : (m n : ℕ) → m ≤ n → (m ≡ n → ⊥) → m + 1 ≤ n
         apart m n a b = omega arith
 
-    -- and the words behind it begin there
+    -- the further words begin after that byte
     pub more-words :
         furtherWords (drop at line) ≡ wordsOf (drop (at + length (firstWord (drop at line)) + 1) line)
     more-words =

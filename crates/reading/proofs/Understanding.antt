@@ -15,15 +15,15 @@ use Rattle.basics.proofs.Stores.{sets-front}
 use Rattle.writing.specs.Words.{space}
 use Rattle.reading.specs.Numbers.{numberOf}
 use Rattle.reading.specs.Words.{firstWord, furtherWords, wordsOf}
-use Rattle.reading.specs.Calls.{mostNumbers, nameOf, withNumber, numbersOf, shapeRight}
+use Rattle.reading.specs.Calls.{mostNumbers, nameOf, withNumber, numbersOf}
 use Rattle.reading.specs.Lines.{isComment, mostBytes, callWith, meaningOf, lineOf, ifNumber, numbersAhead, ifNamed, numbersRead, Understood}
-use Rattle.reading.specs.Found.{namedOf, fewOf}
+use Rattle.reading.specs.Found.{namedOf, fewOf, shapedAs}
 use Rattle.reading.specs.declared.Name.{Name}
-use Rattle.reading.specs.declared.Line.the-variants.{Call, Comment, NoCall}
+use Rattle.reading.specs.declared.Line.the-variants.{Comment, NoCall}
 use Rattle.reading.specs.declared.Named.the-variants.{As, Nothing}
 use Rattle.reading.specs.declared.Count.the-variants.{All, NotAll}
 use Rattle.reading.proofs.Splitting.{further-none, further-some}
-use Rattle.reading.proofs.Shapes.{shape-most, shape-none}
+use Rattle.reading.proofs.Shapes.{shape-most, line-shaped}
 
 -- an empty line is a comment
 pub empty-comment : (line places : List ℕ) → length line ≡ 0 → Understood line places places Comment
@@ -53,7 +53,7 @@ unfolding namedOf
 named-nothing none e = refl
 named-nothing (some n) e = absurd (let z : _≡_ {A = ℕ} 0 1 = cc in omega arith)
 
--- how many numbers there are, if each word is one
+-- if all numbers were counted, every word is a number and each has a place
 few-some : (places count : ℕ) (o : Option (List ℕ)) → All count ≡ fewOf places o
     → (ns : List ℕ) × (o ≡ some ns) × (length ns ≡ count) × (count ≤ places)
 unfolding fewOf
@@ -67,7 +67,7 @@ few-some places count (some ns) e = by (leb (length ns) places) refl e
         (ns, refl, same, omega (arith, leb-true (length ns) places f))
     by false f g = absurd (let z : _≡_ {A = ℕ} 0 1 = cc in omega arith)
 
--- the numbers of words that are all numbers
+-- if every word is a number, `numbersAhead` has the numbers of all words
 pub ahead-all : (ws : List (List ℕ)) (ns : List ℕ) → numbersOf ws ≡ some ns → numbersAhead ws ≡ ns
 unfolding numbersOf withNumber numbersAhead ifNumber
 ahead-all [] ns e = cc
@@ -87,7 +87,7 @@ module _ (line : List ℕ) (end : ℕ) (ends : end ≡ length (firstWord line)) 
   pub word-length : end ≡ length (take end line)
   word-length = ends ∙ ap length (sym word-taken)
 
-  -- behind any word but the last stands one byte at least
+  -- after any word but the last there is at least one byte more
   pub word-behind : (end ≡ length line → ⊥) → end + 1 ≤ length line
   word-behind more = apart (length line) (omega (arith, up-most space line)) more
     where
@@ -124,7 +124,7 @@ pub record Headed (line : List ℕ) (end : ℕ) (name : Name) : Type 0 where
   pub ends : end ≡ length (firstWord line)
   pub names : As name ≡ namedOf (nameOf (take end line))
 
--- without a name a line is no call
+-- a line without a name is no call
 pub unnamed : (line places : List ℕ) (end : ℕ) → Plain line → end ≡ length (firstWord line)
     → Nothing ≡ namedOf (nameOf (take end line)) → Understood line places places NoCall
 unfolding callWith lineOf ifNamed
@@ -137,17 +137,17 @@ module _ (line places : List ℕ) (end : ℕ) (name : Name) (h : Headed line end
   named : nameOf (firstWord line) ≡ some name
   named = rw (word-taken line end (h .ends)) at (named-as name (nameOf (take end line)) (h .names))
 
-  -- a name alone is no call
-  pub alone : end ≡ length line → Understood line places places NoCall
-  unfolding callWith lineOf ifNamed numbersOf numbersAhead
+  -- a name alone has no numbers
+  pub alone : end ≡ length line → Understood line places places (shapedAs name (take 0 places))
+  unfolding ifNamed numbersOf numbersAhead
   alone e =
       let words = further-none line (sym (h .ends) ∙ e) in
       record {
-        answer = rw (meaning-is line (h .plain), named, words, shape-none name);
+        answer = rw (meaning-is line (h .plain), named, words) (line-shaped name []);
         numbers = rw (read-is line (h .plain), named, words);
       }
 
-  -- what is read behind the name: the numbers, in their places
+  -- what is read after the name: the numbers, which stand in their places
   module _ (more : end ≡ length line → ⊥) (after : List ℕ)
       (stands : after ≡ sets places 0 (numbersAhead (wordsOf (drop (end + 1) line)))) where
     words : List (List ℕ)
@@ -164,7 +164,7 @@ module _ (line places : List ℕ) (end : ℕ) (name : Name) (h : Headed line end
     unfolding words ifNamed
     read = rw (read-is line (h .plain), named, words-are) stands
 
-    -- a word that is no number, or more numbers than there are places
+    -- the line is no call if a word is no number, or if there are more numbers than places
     pub not-all : mostNumbers ≤ length places
         → NotAll ≡ fewOf (length places) (numbersOf (wordsOf (drop (end + 1) line)))
         → Understood line places after NoCall
@@ -199,15 +199,6 @@ module _ (line places : List ℕ) (end : ℕ) (name : Name) (h : Headed line end
           ∙ ap (λ (k : ℕ). take k (sets places 0 ns)) (sym (numbers .2))
           ∙ sets-front places ns (omega (arith, numbers .2, numbers .3))
 
-      -- numbers of the right shape are a call
-      pub is-call : shapeRight name (take count after) ≡ true → Understood line places after (Call name count)
-      unfolding callWith lineOf
-      is-call right = record {
-        answer = rw (meant, numbers .1, rw in-front at right) (ap (Call name) (sym (numbers .2)));
-        numbers = read;
-      }
-
-      -- numbers of another shape are none
-      pub wrong-shape : shapeRight name (take count after) ≡ false → Understood line places after NoCall
-      unfolding callWith lineOf
-      wrong-shape wrong = record { answer = rw (meant, numbers .1, rw in-front at wrong); numbers = read }
+      -- the line is a call if the numbers have its shape
+      pub is-shaped : Understood line places after (shapedAs name (take count after))
+      is-shaped = record { answer = rw (meant, numbers .1, in-front) (line-shaped name (numbers .0)); numbers = read }

@@ -8,7 +8,7 @@ use lib.ListN.{length}
 use borrow.Author.Tests.{lt-ltb}
 use Rattle.reading.specs.Numbers.{onlyDigits, valueFrom, valueOf, numberOf}
 
--- a word behind a word is read on from its value
+-- the value of two words in a row is that of the second, read after the value of the first
 pub value-append : (v : ℕ) (xs ys : List ℕ) → valueFrom v (xs ++ ys) ≡ valueFrom (valueFrom v xs) ys
 unfolding valueFrom
 value-append v [] ys = refl

@@ -1,4 +1,4 @@
--- Calls: their names, and the numbers that each has as arguments.
+-- The names of the calls, and how many numbers each has as arguments (docs/JOURNAL.md, Lines in).
 use Prim.Native.Nat.{ℕ, _+_}
 use mathlib.Core.Bool.{Bool, true, false, _&&_}
 use mathlib.Core.List.{List, [], _∷_}
@@ -8,7 +8,7 @@ use lib.ListN.{length, getD}
 use Rattle.basics.specs.Choice.{pick}
 use Rattle.reading.specs.Numbers.{numberOf}
 use Rattle.reading.specs.declared.Name.{Name}
-use Rattle.reading.specs.declared.Name.the-variants.{Open, Enter, Withdraw, Cancel, Deliver, Offer, Close, Month, Status, Account, Look}
+use Rattle.reading.specs.declared.Name.the-variants.{Open, Enter, Withdraw, Cancel, Deliver, Offer, Close, Month, Status, Account, Look, Rules}
 
 -- whether two words are the same
 unfoldable pub sameWord : List ℕ → List ℕ → Bool
@@ -26,7 +26,7 @@ pub record Naming : Type 0 where
 abbrev naming : List ℕ → Name → Naming
 naming w n = record { word = w; name = n }
 
--- the names, in lower case: open enter withdraw cancel deliver offer close month status account look
+-- the names, in lower case: open enter withdraw cancel deliver offer close month status account look rules
 unfoldable pub namings : List Naming
 namings =
     naming (111 ∷ 112 ∷ 101 ∷ 110 ∷ []) Open
@@ -40,6 +40,7 @@ namings =
     ∷ naming (115 ∷ 116 ∷ 97 ∷ 116 ∷ 117 ∷ 115 ∷ []) Status
     ∷ naming (97 ∷ 99 ∷ 99 ∷ 111 ∷ 117 ∷ 110 ∷ 116 ∷ []) Account
     ∷ naming (108 ∷ 111 ∷ 111 ∷ 107 ∷ []) Look
+    ∷ naming (114 ∷ 117 ∷ 108 ∷ 101 ∷ 115 ∷ []) Rules
     ∷ []
 
 -- the call of the first entry with this word
@@ -59,8 +60,8 @@ mostListed = 4_096
 abbrev pub mostNumbers : ℕ
 mostNumbers = 3 + mostListed
 
--- how many numbers a call has; an open has as many closed days as its third number says, and a month as many collected
--- amounts as its first says
+-- How many numbers a call has. The third number of an open says how many closed days follow. The first number of a
+-- month says how many collected amounts follow, and after these stand two more numbers.
 unfoldable pub counted : Name → List ℕ → ℕ
 counted Open ns = 3 + getD ns 2 0
 counted Enter ns = 6
@@ -73,9 +74,10 @@ counted Month ns = 3 + getD ns 0 0
 counted Status ns = 1
 counted Account ns = 1
 counted Look ns = 1
+counted Rules ns = 0
 
--- how long the lists of a call are: the closed days of an open, the lent words of a close, and of a month the collected
--- amounts and the places for payouts
+-- How long the lists of a call are. An open has closed days, a close has lent words, and a month has collected amounts
+-- and places for payouts.
 unfoldable pub listsOf : Name → List ℕ → List ℕ
 listsOf Open ns = getD ns 2 0 ∷ []
 listsOf Enter ns = []
@@ -88,17 +90,18 @@ listsOf Month ns = getD ns 0 0 ∷ getD ns (getD ns 0 0 + 1) 0 ∷ []
 listsOf Status ns = []
 listsOf Account ns = []
 listsOf Look ns = []
+listsOf Rules ns = []
 
--- whether no list is longer than 4,096 words
+-- whether no list is longer than 4,096 words (docs/JOURNAL.md, What is no call)
 unfoldable pub listable : List ℕ → Bool
 listable [] = true
 listable (n ∷ ns) = leb n mostListed && listable ns
 
--- A call has neither a missing nor a surplus argument, and no list that is too long.
+-- A call has neither too few nor too many arguments, and no list that is too long.
 unfoldable pub shapeRight : Name → List ℕ → Bool
 shapeRight name ns = eqb (length ns) (counted name ns) && listable (listsOf name ns)
 
--- one number more in front, if there is one, and if there are the others
+-- a number and then others, if the number is there and the others are too
 unfoldable pub withNumber : Option ℕ → Option (List ℕ) → Option (List ℕ)
 withNumber none ns = none
 withNumber (some n) none = none

@@ -1,4 +1,4 @@
--- What the functions of reading find, one word or a few at a time.
+-- What the private functions of this crate find while a line is read.
 use Prim.Native.Nat.{ℕ, _+_}
 use mathlib.Core.List.{List}
 use mathlib.Core.Option.{Option, none, some}
@@ -8,6 +8,9 @@ use Rattle.basics.specs.Choice.{pick}
 use Rattle.reading.specs.Numbers.{numberOf}
 use Rattle.reading.specs.Words.{firstWord}
 use Rattle.reading.specs.declared.Name.{Name}
+use Rattle.reading.specs.declared.Line.{Line}
+use Rattle.reading.specs.declared.Line.the-variants.{Call, NoCall}
+use Rattle.reading.specs.Calls.{shapeRight}
 use Rattle.reading.specs.declared.Word.{Word}
 use Rattle.reading.specs.declared.Word.the-variants.{Number, NoNumber}
 use Rattle.reading.specs.declared.Named.{Named}
@@ -15,7 +18,7 @@ use Rattle.reading.specs.declared.Named.the-variants.{As, Nothing}
 use Rattle.reading.specs.declared.Count.{Count}
 use Rattle.reading.specs.declared.Count.the-variants.{All, NotAll}
 
--- a number with the place behind it, if there is a number
+-- a number with the place where its word ends, if the word is a number
 unfoldable pub wordOf : Option ℕ → ℕ → Word
 wordOf none end = NoNumber
 wordOf (some n) end = Number n end
@@ -29,7 +32,11 @@ unfoldable pub namedOf : Option Name → Named
 namedOf none = Nothing
 namedOf (some name) = As name
 
--- how many numbers there are, if every word is one and there are places for them
+-- how many numbers there are, if every word is a number and there is a place for each
 unfoldable pub fewOf : ℕ → Option (List ℕ) → Count
 fewOf places none = NotAll
 fewOf places (some ns) = pick (leb (length ns) places) (All (length ns)) NotAll
+
+-- the call with this name and these numbers, if they have its shape
+unfoldable pub shapedAs : Name → List ℕ → Line
+shapedAs name ns = pick (shapeRight name ns) (Call name (length ns)) NoCall

@@ -1,4 +1,4 @@
--- Lines of a journal.
+-- What a line of a journal says (docs/JOURNAL.md, Lines in and What is no call).
 use Prim.Native.Nat.{ℕ}
 use mathlib.Core.Path.{_≡_}
 use mathlib.Core.Bool.{Bool, true}
@@ -15,7 +15,7 @@ use Rattle.reading.specs.declared.Name.{Name}
 use Rattle.reading.specs.declared.Line.{Line}
 use Rattle.reading.specs.declared.Line.the-variants.{Call, Comment, NoCall}
 
--- what a line of a journal says: a call with its arguments, nothing that is answered, or no call
+-- what a line of a journal says: it is a call with its arguments, a comment, or no call
 pub data Meaning : Type 0 where
   call : Name → List ℕ → Meaning
   comment : Meaning
@@ -30,35 +30,36 @@ isComment (b ∷ bs) = eqb b 35
 abbrev pub mostBytes : ℕ
 mostBytes = 65_536
 
--- a name with numbers is a call if there is a name and every word behind it is a number and they have its shape
+-- A line is a call if its first word is a name, every word after it is a number, and these numbers have the shape of
+-- the call.
 unfoldable pub callWith : Option Name → Option (List ℕ) → Meaning
 callWith none ns = no-call
 callWith (some name) none = no-call
 callWith (some name) (some ns) = pick (shapeRight name ns) (call name ns) no-call
 
--- What a line says: a call is its name and then its arguments, on a line that is no comment and not too long.
+-- What a line says. A call is a name and then its arguments, on a line that is no comment and not too long.
 unfoldable pub meaningOf : List ℕ → Meaning
 meaningOf line =
     pick (isComment line) comment
     (pick (ltb mostBytes (length line)) no-call (callWith (nameOf (firstWord line)) (numbersOf (furtherWords line))))
 
--- what a line is, with how many numbers its arguments are
+-- what a line is; a call has the number of its arguments
 unfoldable pub lineOf : Meaning → Line
 lineOf (call name ns) = Call name (length ns)
 lineOf comment = Comment
 lineOf no-call = NoCall
 
--- a number in front of others, none without it
+-- a number and then others, or none if there is no number
 unfoldable pub ifNumber : Option ℕ → List ℕ → List ℕ
 ifNumber none ns = []
 ifNumber (some n) ns = n ∷ ns
 
--- the numbers that words are, up to the first word that is none
+-- the numbers that words are, up to the first word that is no number
 unfoldable pub numbersAhead : List (List ℕ) → List ℕ
 numbersAhead [] = []
 numbersAhead (w ∷ ws) = ifNumber (numberOf w) (numbersAhead ws)
 
--- nothing is read where no call is named
+-- no numbers are read if no call is named
 unfoldable pub ifNamed : Option Name → List ℕ → List ℕ
 ifNamed none ns = []
 ifNamed (some name) ns = ns
@@ -69,8 +70,8 @@ numbersRead line =
     pick (isComment line) []
     (pick (ltb mostBytes (length line)) [] (ifNamed (nameOf (firstWord line)) (numbersAhead (furtherWords line))))
 
--- A line is what it says. The numbers read from it stand in front, as far as there are places, and each place behind
--- them is as it was. Of a call they are its arguments.
+-- The answer is what the line says. The numbers that were read from it stand in the first places, as many as there are
+-- places for, and every other place is as it was. If the line is a call, these numbers are its arguments.
 pub record Understood (line places after : List ℕ) (r : Line) : Type 0 where
   pub answer : r ≡ lineOf (meaningOf line)
   pub numbers : after ≡ sets places 0 (numbersRead line)

@@ -16,7 +16,8 @@ unfoldable pub onlyDigits : List ℕ → Bool
 onlyDigits [] = true
 onlyDigits (b ∷ bs) = isDigit b && onlyDigits bs
 
--- the value of a word, read on from a value: each digit makes ten times what was read before, and the digit
+-- The value of a word whose digits follow others with the value v. Each digit multiplies the value so far by ten and is
+-- added to it.
 unfoldable pub valueFrom : ℕ → List ℕ → ℕ
 valueFrom v [] = v
 valueFrom v (b ∷ bs) = valueFrom (v * 10 + (b - 48)) bs
@@ -25,7 +26,7 @@ valueFrom v (b ∷ bs) = valueFrom (v * 10 + (b - 48)) bs
 abbrev pub valueOf : List ℕ → ℕ
 valueOf w = valueFrom 0 w
 
--- A number is one or more digits, with any zeros in front, whose value fits 64 bits.
+-- A number is one or more digits whose value fits 64 bits. It may have zeros in front.
 abbrev pub isNumber : List ℕ → Bool
 isNumber w = ltb 0 (length w) && (onlyDigits w && ltb (valueOf w) (2 ^ 64))
 

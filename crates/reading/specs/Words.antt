@@ -1,4 +1,4 @@
--- Words: what stands between single spaces.
+-- The words of a line, which stand between single spaces.
 use Prim.Native.Nat.{ℕ}
 use mathlib.Core.List.{List, [], _∷_}
 use lib.Dec.{eqb}
@@ -10,12 +10,12 @@ use Rattle.writing.specs.Words.{space}
 abbrev pub firstWord : List ℕ → List ℕ
 firstWord bs = upTo space bs
 
--- the words behind the first space, none if there is no space
+-- the words after the first space; there are none if there is no space
 unfoldable pub furtherWords : List ℕ → List (List ℕ)
 furtherWords [] = []
 furtherWords (b ∷ bs) = pick (eqb b space) (firstWord bs ∷ furtherWords bs) (furtherWords bs)
 
--- Exactly one space stands between two words. So a space at either end, or a second space, makes an empty word, which
--- is neither a name nor a number.
+-- The words of a line. Exactly one space stands between two words. So a space at either end, or a second space, makes
+-- an empty word, which is neither a name nor a number.
 unfoldable pub wordsOf : List ℕ → List (List ℕ)
 wordsOf bs = firstWord bs ∷ furtherWords bs

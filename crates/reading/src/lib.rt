@@ -1,4 +1,4 @@
-// A line of a journal to a call with its arguments, or to no call.
+// Reads a line of a journal: it is a call with its arguments, a comment, or no call.
 ghost use mathlib.Core.Path.{_≡_};
 ghost use Prim.Native.Nat.{_≤_};
 ghost use lib.Dec.{eqb};
@@ -8,9 +8,9 @@ ghost use Rattle.basics.specs.Choice.{pick};
 ghost use Rattle.reading.specs.Words.{firstWord, wordsOf};
 ghost use Rattle.reading.specs.Calls.{sameWord, namings, found, mostNumbers, nameOf, numbersOf, shapeRight};
 ghost use Rattle.reading.specs.Lines.{numbersAhead, Understood};
-ghost use Rattle.reading.specs.Found.{wordAt, namedOf, fewOf};
+ghost use Rattle.reading.specs.Found.{wordAt, namedOf, fewOf, shapedAs};
 
-// The calls of a journal.
+// The names of the calls, and of the one other line that is answered by numbers.
 pub enum Name {
     Open,
     Enter,
@@ -23,28 +23,30 @@ pub enum Name {
     Status,
     Account,
     Look,
+    // This is no call on the book. It asks for the edition of the rules.
+    Rules,
 }
 
-// What a line is. A call has its name and how many numbers its arguments are.
+// What a line is. A call has a name and the number of its arguments.
 pub enum Line {
     Call(Name, usize),
     Comment,
     NoCall,
 }
 
-// What a word at some place is. A number has its value and the place behind the word.
+// What a word of a line is. A number has its value and the place where the word ends.
 enum Word {
     Number(u64, usize),
     NoNumber,
 }
 
-// The call that a word names.
+// The call that a word names, if it names one.
 enum Named {
     As(Name),
     Nothing,
 }
 
-// How many numbers there are.
+// How many numbers were read, if every word was a number and each had a place.
 enum Count {
     All(usize),
     NotAll,
@@ -89,7 +91,7 @@ fn is_same(a: &[u8], b: &[u8]) -> bool
     true
 }
 
-// The call that a word names, of Close and those behind it.
+// The call that a word names, if it is Close or one of the names after it.
 fn name_from_close(word: &[u8]) -> Named
     ensures { λ r. ⌜ r ≡ namedOf (found (now (word .entry)) (drop 6 namings)) ⌝ }
 {
@@ -107,6 +109,9 @@ fn name_from_close(word: &[u8]) -> Named
     }
     if is_same(word, b"look") {
         return Named::As(Name::Look);
+    }
+    if is_same(word, b"rules") {
+        return Named::As(Name::Rules);
     }
     Named::Nothing
 }
@@ -136,7 +141,7 @@ fn name_of(word: &[u8]) -> Named
     name_from_close(word)
 }
 
-// The word that ends at a place, of which every byte was a digit: a number, unless it is empty.
+// The word that ends at a place, if every byte of it was a digit. It is a number unless it is empty.
 fn ended(value: u64, from: usize, at: usize) -> Word
     ensures { λ r. ⌜ r ≡ pick (eqb at from) Word.NoNumber (Word.Number value at) ⌝ }
 {
@@ -146,7 +151,8 @@ fn ended(value: u64, from: usize, at: usize) -> Word
     Word::Number(value, at)
 }
 
-// The word that begins at a place. A value that no longer fits 64 bits fits no more, whatever digits follow.
+// Reads the word that begins at a place. If its value is too large for 64 bits, it stays so whatever digits follow, so
+// the rest of the word need not be read.
 fn read_word(line: &[u8], from: usize) -> Word
     requires { ⌜ from ≤ length (now line) ⌝ }
     ensures { λ r. ⌜ r ≡ wordAt (now (line .entry)) from ⌝ }
@@ -174,7 +180,7 @@ fn read_word(line: &[u8], from: usize) -> Word
     ended(value, from, at)
 }
 
-// The numbers from a place to the end of the line, each put into its place as it is read.
+// Reads the numbers from a place to the end of the line, and puts each into its place of the buffer.
 fn read_numbers(line: &[u8], from: usize, numbers: &mut [u64]) -> Count
     requires { ⌜ from ≤ length (now line) ⌝ }
     ensures { λ r. ⌜ r ≡ fewOf (length (now (numbers .entry))) (numbersOf (wordsOf (drop from (now (line .entry))))) ⌝ }
@@ -197,7 +203,7 @@ fn read_numbers(line: &[u8], from: usize, numbers: &mut [u64]) -> Count
     Count::NotAll
 }
 
-// Whether the numbers of an open are as many as the third of them says.
+// Whether an open has as many numbers as the third of them says, and no list that is too long.
 fn is_open(numbers: &[u64], count: usize) -> bool
     requires { ⌜ count ≤ length (now numbers) ⌝ }
     ensures { λ r. ⌜ r ≡ shapeRight Name.Open (take count (now (numbers .entry))) ⌝ }
@@ -212,7 +218,7 @@ fn is_open(numbers: &[u64], count: usize) -> bool
     count == 3 + listed as usize
 }
 
-// Whether the numbers of a close are four and the third is no list too long.
+// Whether a close has four numbers, and the list whose length is the third is not too long.
 fn is_close(numbers: &[u64], count: usize) -> bool
     requires { ⌜ count ≤ length (now numbers) ⌝ }
     ensures { λ r. ⌜ r ≡ shapeRight Name.Close (take count (now (numbers .entry))) ⌝ }
@@ -223,7 +229,7 @@ fn is_close(numbers: &[u64], count: usize) -> bool
     numbers[2] <= MOST_LISTED
 }
 
-// Whether the numbers of a month are as many as the first of them says.
+// Whether a month has as many numbers as the first of them says, and no list that is too long.
 fn is_month(numbers: &[u64], count: usize) -> bool
     requires { ⌜ count ≤ length (now numbers) ⌝ }
     ensures { λ r. ⌜ r ≡ shapeRight Name.Month (take count (now (numbers .entry))) ⌝ }
@@ -242,7 +248,7 @@ fn is_month(numbers: &[u64], count: usize) -> bool
     numbers[collected + 1] <= MOST_LISTED
 }
 
-// Whether the first numbers have the shape of a call.
+// Whether the first `count` numbers have the shape of the call with this name.
 fn has_shape(name: Name, numbers: &[u64], count: usize) -> bool
     requires { ⌜ count ≤ length (now numbers) ⌝ }
     ensures { λ r. ⌜ r ≡ shapeRight name (take count (now (numbers .entry))) ⌝ }
@@ -259,10 +265,23 @@ fn has_shape(name: Name, numbers: &[u64], count: usize) -> bool
         Name::Status => count == 1,
         Name::Account => count == 1,
         Name::Look => count == 1,
+        Name::Rules => count == 0,
     }
 }
 
-// A line of a journal, without its line feed. The numbers of its arguments are put into the first places.
+// The call with this name and the first `count` numbers, if they have its shape.
+fn shaped(name: Name, numbers: &[u64], count: usize) -> Line
+    requires { ⌜ count ≤ length (now numbers) ⌝ }
+    ensures { λ r. ⌜ r ≡ shapedAs name (take count (now (numbers .entry))) ⌝ }
+{
+    if has_shape(name, numbers, count) {
+        return Line::Call(name, count);
+    }
+    Line::NoCall
+}
+
+// Reads a line of a journal, which is given without its line feed. Its arguments are put into the first places of the
+// buffer for numbers.
 pub fn read_line(line: &[u8], numbers: &mut [u64]) -> Line
     requires { ⌜ mostNumbers ≤ length (now numbers) ⌝ }
     ensures { λ r. ⌜ Understood (now (line .entry)) (now (numbers .entry)) (now (numbers .exit)) r ⌝ }
@@ -281,13 +300,10 @@ pub fn read_line(line: &[u8], numbers: &mut [u64]) -> Line
         return Line::NoCall;
     };
     if end == line.len() {
-        return Line::NoCall;
+        return shaped(name, numbers, 0);
     }
     let Count::All(count) = read_numbers(line, end + 1, numbers) else {
         return Line::NoCall;
     };
-    if has_shape(name, numbers, count) {
-        return Line::Call(name, count);
-    }
-    Line::NoCall
+    shaped(name, numbers, count)
 }

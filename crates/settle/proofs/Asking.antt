@@ -1,4 +1,4 @@
--- What a line asks, by its name and its numbers.
+-- What a line asks, given its name and its numbers.
 use Prim.Native.Nat.{ℕ, _+_, _-_, _≤_}
 use native.Mathlib.Omega.{arith}
 use mathlib.Core.Path.{_≡_, refl, sym, ap₂, _∙_}
@@ -9,7 +9,7 @@ use types.Run.{OneOf, miss}
 use denote.Enum.Declared.{tagOf}
 use Rattle.basics.proofs.Cases.{never, pick-case}
 use Rattle.reading.specs.declared.Name.{Name}
-use Rattle.reading.specs.declared.Name.the-variants.{Open, Enter, Withdraw, Cancel, Deliver, Offer, Close, Month, Status, Account, Look}
+use Rattle.reading.specs.declared.Name.the-variants.{Open, Enter, Withdraw, Cancel, Deliver, Offer, Close, Month, Status, Account, Look, Rules}
 use Rattle.reading.specs.declared.Line.{Line}
 use Rattle.reading.specs.declared.Line.the-variants.{Call, Comment}
 use Rattle.reading.specs.Calls.{shapeRight}
@@ -19,11 +19,11 @@ use Rattle.reading.proofs.Arguments.{open-listed, close-listed, month-listed}
 use Rattle.lines.specs.declared.Taken.{Taken}
 use Rattle.settle.specs.Asked.{nothingAsked, askedPlain, askedCall, askedOf, asks, noted, Listed}
 
--- the calls that are neither an open nor a close nor a month, by their places among the names
+-- the places in the list of names of all lines but open, close and month
 abbrev plainNames : List ℕ
-plainNames = 1 ∷ 2 ∷ 3 ∷ 4 ∷ 5 ∷ 8 ∷ 9 ∷ 10 ∷ []
+plainNames = 1 ∷ 2 ∷ 3 ∷ 4 ∷ 5 ∷ 8 ∷ 9 ∷ 10 ∷ 11 ∷ []
 
--- they have no list
+-- these lines have no list
 pub plain-name : (name : Name) (count : ℕ) (ns : List ℕ)
     → OneOf plainNames (tagOf the-type name)
     → askedPlain (Call name count) ns ≡ askedCall name count ns
@@ -39,16 +39,17 @@ plain-name Month count ns h = absurd (miss plainNames 7 tt h)
 plain-name Status count ns h = refl
 plain-name Account count ns h = refl
 plain-name Look count ns h = refl
+plain-name Rules count ns h = refl
 
 -- a line that asks nothing has no list
 pub nothing-listed : (line : Line) (ns : List ℕ) → Listed (nothingAsked line) ns
 nothing-listed line ns = record { begins = omega arith; ends = omega arith; lends = omega arith }
 
--- neither has a call without one
+-- `Listed` also holds of a call without a list
 plain-listed : (line : Line) (ns : List ℕ) → Listed (askedPlain line ns) ns
 plain-listed line ns = record { begins = omega arith; ends = omega arith; lends = omega arith }
 
--- the list of a call is among its numbers
+-- the list of a call lies within its numbers
 pub call-listed : (name : Name) (count : ℕ) (ns : List ℕ) → count ≤ length ns → shapeRight name (take count ns) ≡ true
     → Listed (askedCall name count ns) ns
 unfolding askedCall
@@ -70,14 +71,15 @@ call-listed Month count ns h s =
 call-listed Status count ns h s = plain-listed (Call Status count) ns
 call-listed Account count ns h s = plain-listed (Call Account count) ns
 call-listed Look count ns h s = plain-listed (Call Look count) ns
+call-listed Rules count ns h s = plain-listed (Call Rules count) ns
 
--- the numbers of a line that has ended are noted
+-- the numbers of a line that has ended are put into the buffer
 pub noted-line : (t : Taken) (line ns : List ℕ) {after : List ℕ} {l : Line} → t .ends ≡ true
     → Understood (take (t .size) line) ns after l → after ≡ noted t line ns
 unfolding noted
 noted-line t line ns e u = rw e (u .numbers)
 
--- a line that has ended asks what was understood
+-- a line that has ended asks what was read from it
 pub asked-line : (t : Taken) (line ns after : List ℕ) {l : Line} (is : Line) → l ≡ is → t .ends ≡ true
     → Understood (take (t .size) line) ns after l → askedOf is after ≡ asks t line ns
 unfolding asks
@@ -86,7 +88,7 @@ asked-line t line ns after is told e u =
     (λ f. ap₂ askedOf (sym told ∙ u .answer) (noted-line t line ns e u))
     (λ f. absurd (never (sym f ∙ e)))
 
--- a line under way asks nothing, and no numbers are noted
+-- a line that has not ended asks nothing, and the buffer for numbers stays as it was
 pub asked-not : (t : Taken) (line ns : List ℕ) → t .ends ≡ false
     → (nothingAsked Comment ≡ asks t line ns) × (ns ≡ noted t line ns)
 unfolding asks noted

@@ -1,5 +1,5 @@
--- The program and the theorem: every book that the program holds is one that an Open and a list of calls lead to, so
--- what is promised of whole journals holds of it.
+-- The program and the theorem on whole journals. Every book that the program holds is one that an Open and a list of
+-- calls lead to, so what is promised of whole journals holds for it.
 use Prim.Native.Nat.{ℕ}
 use mathlib.Core.Path.{_≡_, refl, ap}
 use mathlib.Core.List.{List, [], _∷_}
@@ -15,7 +15,7 @@ use Rattle.settle.specs.declared.calls.Asked.{Asked}
 use Rattle.settle.specs.declared.calls.Played.{Played}
 use Rattle.settle.specs.Calls.{listIn, lentTo}
 use Rattle.settle.specs.Turns.{Gives, Held, begins, Reached}
-use Rattle.settle.specs.Turns.Gives.{opening, entering, withdrawing, cancelling, delivering, offering, closing, paying, showing, balancing, looking, passing, objecting}
+use Rattle.settle.specs.Turns.Gives.{opening, entering, withdrawing, cancelling, delivering, offering, closing, paying, showing, balancing, looking, ruling, passing, objecting}
 use Rattle.settle.specs.Turns.Reached.{start, turn}
 
 -- an Open and a list of calls lead to the book
@@ -24,11 +24,11 @@ record Leads (b : Book) : Type 0 where
   pub calls : List Call
   pub there : b ≡ played opened calls .book
 
--- an Open does
+-- an Open leads to the book that it returns
 opens-book : (o : Opening) → Leads (played o [] .book)
 opens-book o = record { opened = o; calls = []; there = refl }
 
--- one call more does
+-- one more call leads to the book after it
 goes-on : {b : Book} (c : Call) → Leads b → Leads (outcome b c .book)
 goes-on c l = record {
   opened = l .opened;
@@ -36,7 +36,7 @@ goes-on c l = record {
   there = ap (λ (x : Book). outcome x c .book) (l .there);
 }
 
--- whatever a line gives
+-- an Open and a list of calls still lead to the book after any line
 line-leads : {b : Book} {a : Asked} {ns ws : List ℕ} {l : Line} {p : Played} {after : List ℕ}
     → Gives b a ns ws l p after → Leads b → Leads (p .book)
 line-leads {b} {a} {ns} {ws} (opening n) j =
@@ -54,20 +54,21 @@ line-leads {b} {a} {ns} (paying n) j =
 line-leads (showing n) j = j
 line-leads (balancing n) j = j
 line-leads (looking n answer h) j = j
+line-leads (ruling n) j = j
 line-leads passing j = j
 line-leads objecting j = j
 
--- after any turns
+-- the same holds after any number of turns
 leads-on : {first h : Held} {n : ℕ} → Leads (first .book) → Reached first n h → Leads (h .book)
 leads-on l start = l
 leads-on l (turn r t) = line-leads (t .gives) (leads-on l r)
 
--- the book that the program holds
+-- so an Open and a list of calls lead to the book that the program holds
 held-leads : {part line numbers words out : List ℕ} {h : Held} {n : ℕ}
     → Reached (begins part line numbers words out) n h → Leads (h .book)
 held-leads r = leads-on (opens-book (record { first = day 0; closed = []; terms = 2 })) r
 
--- It is the book of a journal of which all is promised.
+-- The book that the program holds is that of a journal for which everything is proved that is promised of journals.
 pub held-promised : {part line numbers words out : List ℕ} {h : Held} {n : ℕ}
     → Reached (begins part line numbers words out) n h → (s : Run) × Promise s × (h .book ≡ s .book)
 held-promised r =

@@ -1,9 +1,12 @@
--- Laws that the program rests on. Asking: what a line asks. Lending: the words that a call is lent. Flows: where the
--- input and the output stand. Turning: from turn to turn. Texts: the lines of what was
--- read. Journals: the program and the theorem on whole journals.
+-- Laws of the program. Asking: what a line asks. Lending: the words that a call is lent. Flows: where the input and the
+-- output stand. Turning: what holds between two turns. Endings: what is written last. Texts: the lines that are played
+-- are those of the text. Completing: a run whose input is over is complete. Journals: the program and the theorem on
+-- whole journals.
 pub mod Asking
 pub mod Lending
 pub mod Flows
 pub mod Turning
+pub mod Endings
 pub mod Texts
+pub mod Completing
 pub mod Journals

@@ -1,4 +1,4 @@
--- What a line asks.
+-- What a line asks of the book, and with which arguments (docs/JOURNAL.md, Lines in).
 use Prim.Native.Nat.{ℕ, _-_, _≤_}
 use mathlib.Core.List.{List}
 use lib.ListN.{length, getD, take}
@@ -6,7 +6,7 @@ use lib.Seq.{sets}
 use Rattle.basics.specs.Choice.{pick}
 use Rattle.lines.specs.declared.Taken.{Taken}
 use Rattle.reading.specs.declared.Name.{Name}
-use Rattle.reading.specs.declared.Name.the-variants.{Open, Enter, Withdraw, Cancel, Deliver, Offer, Close, Month, Status, Account, Look}
+use Rattle.reading.specs.declared.Name.the-variants.{Open, Enter, Withdraw, Cancel, Deliver, Offer, Close, Month, Status, Account, Look, Rules}
 use Rattle.reading.specs.declared.Line.{Line}
 use Rattle.reading.specs.declared.Line.the-variants.{Call, Comment, NoCall}
 use Rattle.reading.specs.Calls.{mostListed}
@@ -29,7 +29,8 @@ nothingAsked line = record {
   fill = 0;
 }
 
--- a call by its numbers, with a list among them and so many words that are filled
+-- A call by its numbers. Its list stands among them from one place up to another, and a number of words are lent to it
+-- that are filled with a value.
 abbrev pub askedWith : Line → List ℕ → ℕ → ℕ → ℕ → ℕ → Asked
 askedWith line ns from to lent fill = record {
   line = line;
@@ -45,8 +46,8 @@ askedWith line ns from to lent fill = record {
   fill = fill;
 }
 
--- a close or a month: the last two of its numbers say how many words it is lent and with what they are filled, and
--- between the first and these stand the amounts of a month
+-- A close or a month. The last two of its numbers say how many words it is lent and with what value they are filled.
+-- The amounts of a month stand between its first number and these two.
 abbrev pub askedLent : Line → List ℕ → ℕ → Asked
 askedLent line ns count = askedWith line ns 1 (count - 2) (getD ns (count - 2) 0) (getD ns (count - 1) 0)
 
@@ -54,7 +55,7 @@ askedLent line ns count = askedWith line ns 1 (count - 2) (getD ns (count - 2) 0
 abbrev pub askedPlain : Line → List ℕ → Asked
 askedPlain line ns = askedWith line ns 0 0 0 0
 
--- what a call asks, by its name: the closed days of an open are behind its first three numbers
+-- what a call asks, by its name; the closed days of an open follow its first three numbers
 unfoldable pub askedCall : Name → ℕ → List ℕ → Asked
 askedCall Open count ns = askedWith (Call Open count) ns 3 count 0 0
 askedCall Enter count ns = askedPlain (Call Enter count) ns
@@ -67,23 +68,24 @@ askedCall Month count ns = askedLent (Call Month count) ns count
 askedCall Status count ns = askedPlain (Call Status count) ns
 askedCall Account count ns = askedPlain (Call Account count) ns
 askedCall Look count ns = askedPlain (Call Look count) ns
+askedCall Rules count ns = askedPlain (Call Rules count) ns
 
--- what a line asks, with the numbers that were read from it in front of others
+-- what a line asks, given the buffer for numbers, where those of the line stand first
 unfoldable pub askedOf : Line → List ℕ → Asked
 askedOf (Call name count) ns = askedCall name count ns
 askedOf Comment ns = nothingAsked Comment
 askedOf NoCall ns = nothingAsked NoCall
 
--- the numbers after a line was taken: those of the line in front, once it has ended
+-- The buffer for numbers after bytes of a line were taken. If the line has ended, its numbers now stand first.
 unfoldable pub noted : Taken → List ℕ → List ℕ → List ℕ
 noted t line ns = pick (t .ends) (sets ns 0 (numbersRead (take (t .size) line))) ns
 
--- what is asked by the line that was taken, once it has ended
+-- What is asked after bytes of a line were taken. If the line has not ended yet, nothing is asked, as by a comment.
 unfoldable pub asks : Taken → List ℕ → List ℕ → Asked
 asks t line ns =
     pick (t .ends) (askedOf (lineOf (meaningOf (take (t .size) line))) (noted t line ns)) (nothingAsked Comment)
 
--- a call's list is among its numbers, and no more words are lent than a list may have
+-- A call's list lies within its numbers, and no more words are lent than a list may have.
 pub record Listed (a : Asked) (numbers : List ℕ) : Type 0 where
   pub begins : a .from ≤ a .to
   pub ends : a .to ≤ length numbers

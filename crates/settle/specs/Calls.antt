@@ -1,4 +1,5 @@
--- The calls that lines ask, on the book: the book that each hands back, and its answer.
+-- The calls that lines ask for, each played on the book: the book that it hands back, and its answer. The names of the
+-- arguments are those of docs/JOURNAL.md, Lines in, and the results are in the order of its chapter Lines out.
 use Prim.Native.Nat.{ℕ}
 use mathlib.Core.Path.{_≡_}
 use mathlib.Core.List.{List, [], _∷_, _++_}
@@ -34,11 +35,11 @@ played b answer = record { book = b; answer = answer }
 abbrev pub atFirst : Played
 atFirst = played (opened (day 0) [] 2 .book) nothing
 
--- the list among a call's numbers
+-- the list that stands among a call's numbers
 abbrev pub listIn : Asked → List ℕ → List ℕ
 listIn a ns = between (a .from) (a .to) ns
 
--- what an open gives
+-- the book and the answer after an open
 abbrev pub afterOpen : Opened → Played
 afterOpen r = played (r .book) (numbersTold 1 (r .answer) 0 0)
 
@@ -46,7 +47,7 @@ afterOpen r = played (r .book) (numbersTold 1 (r .answer) 0 0)
 abbrev pub opens : Asked → List ℕ → Played
 opens a ns = afterOpen (opened (day (a .first)) (listIn a ns) (a .second))
 
--- what an enter gives
+-- the book and the answer after an enter
 abbrev pub afterEnter : Entered → Played
 afterEnter r = played (r .book) (numbersTold 3 (r .answer) (r .leg) (r .obligation))
 
@@ -54,7 +55,7 @@ afterEnter r = played (r .book) (numbersTold 3 (r .answer) (r .leg) (r .obligati
 abbrev pub enters : Book → Asked → Played
 enters b a = afterEnter (enter b (a .first) (a .second) (a .third) (a .fourth) (a .fifth) (day (a .sixth)))
 
--- what a call gives that answers its number alone
+-- the book and the answer after a call whose only result is its answer number
 abbrev pub afterDone : Done → Played
 afterDone r = played (r .book) (numbersTold 1 (r .answer) 0 0)
 
@@ -62,7 +63,7 @@ afterDone r = played (r .book) (numbersTold 1 (r .answer) 0 0)
 abbrev pub withdraws : Book → Asked → Played
 withdraws b a = afterDone (withdraw b (a .first) (a .second))
 
--- what a cancel gives
+-- the book and the answer after a cancel
 abbrev pub afterCancel : Cancelled → Played
 afterCancel r = played (r .book) (numbersTold 2 (r .answer) (r .moved) 0)
 
@@ -70,7 +71,7 @@ afterCancel r = played (r .book) (numbersTold 2 (r .answer) (r .moved) 0)
 abbrev pub cancels : Book → Asked → Played
 cancels b a = afterCancel (cancel b (a .first) (a .second))
 
--- what a deliver gives
+-- the book and the answer after a deliver
 abbrev pub afterDeliver : Delivered → Played
 afterDeliver r = played (r .book) (numbersTold 2 (r .answer) (r .cash) 0)
 
@@ -82,11 +83,11 @@ delivers b a = afterDeliver (deliver b (a .first) (a .second))
 abbrev pub offers : Book → Asked → Played
 offers b a = afterDone (offer b (a .first) (a .second) (a .third) (a .fourth))
 
--- the words that a call is lent
+-- the words that a call is lent, each filled with the value of its line
 abbrev pub lentTo : Asked → List ℕ
 lentTo a = replicate (a .lent) (a .fill)
 
--- what a close gives
+-- the book and the answer after a close
 abbrev pub afterClose : Asked → Closed → Played
 afterClose a r = played (r .book) (closedTold (r .answer) (r .count) (a .lent) (a .fill))
 
@@ -94,11 +95,11 @@ afterClose a r = played (r .book) (closedTold (r .answer) (r .count) (a .lent) (
 abbrev pub closes : Book → Asked → Played
 closes b a = afterClose a (close b (a .first) (a .second) (a .lent))
 
--- the words after a close: those lent as the call left them, the others as they were
+-- the words after a close: those that were lent are as the call left them, and the others are as they were
 abbrev pub closeWordsOf : Book → Asked → List ℕ → List ℕ
 closeWordsOf b a ws = closeWords b (a .first) (a .second) (lentTo a) ++ drop (a .lent) ws
 
--- what a month gives
+-- the book and the answer after a month
 abbrev pub afterMonth : Asked → Done → Played
 afterMonth a r = played (r .book) (paidTold (r .answer) (a .lent))
 
@@ -106,11 +107,11 @@ afterMonth a r = played (r .book) (paidTold (r .answer) (a .lent))
 abbrev pub months : Book → Asked → List ℕ → Played
 months b a ns = afterMonth a (month b (listIn a ns) (a .lent))
 
--- the words after a month
+-- the words after a month: those that were lent are as the call left them, and the others are as they were
 abbrev pub monthWordsOf : Book → Asked → List ℕ → List ℕ → List ℕ
 monthWordsOf b a ns ws = monthWords b (listIn a ns) (lentTo a) ++ drop (a .lent) ws
 
--- what a status shows
+-- the answer to a status
 abbrev pub shownAs : Shown → Answer
 shownAs r =
     statusTold
@@ -121,7 +122,7 @@ shownAs r =
 abbrev pub shows : Book → Asked → Answer
 shows b a = shownAs (status b (a .first))
 
--- what an account shows
+-- the answer to an account
 abbrev pub balanceAs : Balance → Answer
 balanceAs r = balanceTold (r .answer) (r .cents)
 
@@ -129,8 +130,16 @@ balanceAs r = balanceTold (r .answer) (r .cents)
 abbrev pub balances : Book → Asked → Answer
 balances b a = balanceAs (account b (a .first))
 
--- look: member; the answer is one that Look may give
+-- look: member. The rules may allow more than one answer, and this is one that they allow.
 pub record LooksAs (b : Book) (a : Asked) (answer : Answer) : Type 0 where
   pub looked : Looked
   pub allowed : Looks b (a .first) looked
   pub told : answer ≡ numbersTold 2 (looked .answer) (looked .obligation) 0
+
+-- the edition of the rules: the number of the latest change in docs/RULES.md
+abbrev pub edition : ℕ
+edition = 0
+
+-- the answer to rules: 0 and the edition
+abbrev pub editionTold : Answer
+editionTold = numbersTold 2 0 edition 0

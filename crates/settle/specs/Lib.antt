@@ -1,7 +1,9 @@
--- What the program does with a journal. Asked: what a line asks. Calls: the call of it on the book. Flow: bytes in and
--- out. Turns: all of it, from line to line. Read: the text that was read, and its lines.
+-- What the program does with a journal. Asked: what a line asks. Calls: its call, played on the book. Flow: bytes in
+-- and out. Turns: how the journal is played, turn by turn. Ending: what is written last. Read: what was read and
+-- written in all turns.
 pub mod Asked
 pub mod Calls
 pub mod Flow
 pub mod Turns
+pub mod Ending
 pub mod Read

@@ -1,13 +1,11 @@
--- A journal, turn by turn.
-use Prim.Native.Nat.{ℕ, suc, _≤_, _<_}
+-- How a journal is played, turn by turn: what the program holds between two turns, and what one turn does.
+use Prim.Native.Nat.{ℕ, suc, _-_, _≤_, _<_}
 use mathlib.Core.Path.{_≡_}
-use mathlib.Core.Bool.{Bool, true, false}
 use mathlib.Core.List.{List}
-use mathlib.Core.Logic.{_⊎_}
 use lib.ListN.{length}
 use Rattle.book.specs.declared.Book.{Book}
 use Rattle.lines.specs.declared.Taken.{Taken}
-use Rattle.reading.specs.declared.Name.the-variants.{Open, Enter, Withdraw, Cancel, Deliver, Offer, Close, Month, Status, Account, Look}
+use Rattle.reading.specs.declared.Name.the-variants.{Open, Enter, Withdraw, Cancel, Deliver, Offer, Close, Month, Status, Account, Look, Rules}
 use Rattle.reading.specs.declared.Line.{Line}
 use Rattle.reading.specs.declared.Line.the-variants.{Call, Comment, NoCall}
 use Rattle.reading.specs.Calls.{mostListed, mostNumbers}
@@ -17,22 +15,25 @@ use Rattle.answers.specs.Told.{nothing, noCall}
 use Rattle.answers.specs.Text.{mostAnswer, answerText}
 use Rattle.settle.specs.declared.calls.Asked.{Asked}
 use Rattle.settle.specs.declared.calls.Played.{Played}
+use Rattle.settle.specs.declared.flow.Course.{Course}
+use Rattle.settle.specs.declared.flow.Course.the-variants.{Going, Over, Failed}
 use Rattle.settle.specs.declared.flow.Flow.{Flow}
 use Rattle.settle.specs.Asked.{asks, noted}
 use Rattle.settle.specs.Calls.{played, atFirst, opens, enters, withdraws, cancels, delivers, offers, closes}
-use Rattle.settle.specs.Calls.{closeWordsOf, months, monthWordsOf, shows, balances, LooksAs}
+use Rattle.settle.specs.Calls.{closeWordsOf, months, monthWordsOf, shows, balances, LooksAs, editionTold}
 use Rattle.settle.specs.Flow.{atStart, FedOn, TakenOn, ToldOn}
 
--- the buffers have room for more than a call's line, so that a longer line is seen to be longer, for the numbers of a
--- line, for the words that are lent, and for an answer
+-- The buffers are large enough. The one for a line has room for more bytes than a call's line may have, so that a line
+-- that is too long can be told from one that is not. The others have room for the numbers of a line, for the words that
+-- are lent, and for the longest answer.
 pub record Buffers (line numbers words out : List ℕ) : Type 0 where
   pub longer : mostBytes < length line
   pub numbered : mostNumbers ≤ length numbers
   pub lendable : mostListed ≤ length words
   pub writable : mostAnswer ≤ length out
 
--- What a line gives, on a book, with its numbers and the words: another book or the same, an answer, and the words as
--- they are left.
+-- What a line does, given the book, the numbers of the line and the words that can be lent. The result is the book
+-- after the line, its answer, and the words as the line leaves them.
 pub data Gives (b : Book) (a : Asked) (ns ws : List ℕ) : Line → Played → List ℕ → Type 0 where
   opening : (n : ℕ) → Gives b a ns ws (Call Open n) (opens a ns) ws
   entering : (n : ℕ) → Gives b a ns ws (Call Enter n) (enters b a) ws
@@ -45,6 +46,7 @@ pub data Gives (b : Book) (a : Asked) (ns ws : List ℕ) : Line → Played → L
   showing : (n : ℕ) → Gives b a ns ws (Call Status n) (played b (shows b a)) ws
   balancing : (n : ℕ) → Gives b a ns ws (Call Account n) (played b (balances b a)) ws
   looking : (n : ℕ) (answer : Answer) → LooksAs b a answer → Gives b a ns ws (Call Look n) (played b answer) ws
+  ruling : (n : ℕ) → Gives b a ns ws (Call Rules n) (played b editionTold) ws
   passing : Gives b a ns ws Comment (played b nothing) ws
   objecting : Gives b a ns ws NoCall (played b noCall) ws
 
@@ -58,10 +60,12 @@ pub record Held : Type 0 where
   pub words : List ℕ
   pub out : List ℕ
 
--- A turn: the input is fed on, bytes of a line are taken, and what the line asks is played and answered.
+-- A turn, which only happens while the run goes on. More is read if need be, bytes of the current line are taken, and
+-- if the line has ended, what it asks is played and answered.
 pub record Turn (h after : Held) : Type 0 where
+  pub going : h .flow .course ≡ Going
   pub fed : Flow
-  pub feeds : FedOn (h .flow) (h .part) (after .part) fed
+  pub feeds : FedOn (h .flow) (length (h .out)) (h .part) (after .part) fed
   pub taken : Taken
   pub takes : TakenOn fed (after .part) (h .line) (after .line) taken
   pub asked : Asked
@@ -71,7 +75,7 @@ pub record Turn (h after : Held) : Type 0 where
   pub gives : Gives (h .book) asked (after .numbers) (h .words) (asked .line) (played (after .book) answer) (after .words)
   pub tells : ToldOn fed taken (answerText answer (taken .feed .ended) (after .words)) (h .out) (after .out) (after .flow)
 
--- what is held before the first turn, with buffers as they are then
+-- what the program holds before the first turn, with these contents of the buffers
 abbrev pub begins : List ℕ → List ℕ → List ℕ → List ℕ → List ℕ → Held
 begins part line numbers words out = record {
   book = atFirst .book;
@@ -83,25 +87,17 @@ begins part line numbers words out = record {
   out = out;
 }
 
--- what is held after so many turns
+-- the program holds this after this number of turns
 pub data Reached (first : Held) : ℕ → Held → Type 0 where
   start : Reached first 0 first
   turn : {n : ℕ} {h after : Held} → Reached first n h → Turn h after → Reached first (suc n) after
 
--- whether the input was over in the last turn
-unfoldable pub isOver : {first h : Held} {n : ℕ} → Reached first n h → Bool
-isOver start = false
-isOver (turn r t) = t .taken .over
+-- the most turns of a run: the largest number of 64 bits
+abbrev pub mostTurns : ℕ
+mostTurns = 18_446_744_073_709_551_615
 
--- The journal was played turn by turn until its input was over, or for as many turns as a number of 64 bits counts.
-pub record Plays (first last : Held) : Type 0 where
-  pub turns : ℕ
-  pub reached : Reached first turns last
-  pub ends : (isOver reached ≡ true) ⊎ (turns ≡ 18_446_744_073_709_551_615)
-
--- The same of buffers: what they hold at entry, and at last.
-pub record PlaysIn (first : Held) (part line numbers words out : List ℕ) : Type 0 where
-  pub book : Book
-  pub flow : Flow
-  pub plays : Plays first
-      (record { book = book; flow = flow; part = part; line = line; numbers = numbers; words = words; out = out })
+-- the turns that are left after a turn: one fewer, or none if the run no longer goes on
+abbrev pub turnsLeft : Course → ℕ → ℕ
+turnsLeft Going turns = turns - 1
+turnsLeft Over turns = 0
+turnsLeft Failed turns = 0

@@ -1,4 +1,4 @@
-// What a line asks, and the call of it on the book.
+// What a line asks, and the calls on the book that play it.
 use answers::Answer;
 use book::Book;
 use calendar::Day;
@@ -9,16 +9,16 @@ ghost use mathlib.Core.Path.{_≡_};
 ghost use mathlib.Core.Bool.{true};
 ghost use mathlib.Core.List.{_++_};
 ghost use Prim.Native.Nat.{_-_, _≤_};
-ghost use lib.ListN.{length, getD, take, drop, replicate};
+ghost use lib.ListN.{length, take, drop, replicate};
 ghost use Rattle.book.specs.Book.{Valid};
-ghost use Rattle.reading.specs.Calls.{mostListed, mostNumbers, shapeRight};
+ghost use Rattle.reading.specs.Calls.{mostNumbers, shapeRight};
 ghost use Rattle.settle.specs.Asked.{nothingAsked, askedWith, askedLent, askedCall, asks, noted, Listed};
 ghost use Rattle.settle.specs.Calls.{atFirst, opens, enters, withdraws, cancels, delivers, offers, closes};
-ghost use Rattle.settle.specs.Calls.{closeWordsOf, months, monthWordsOf, shows, balances, LooksAs};
+ghost use Rattle.settle.specs.Calls.{closeWordsOf, months, monthWordsOf, shows, balances, LooksAs, editionTold};
 
-// What a line asks. A call has what stands in the first six places for numbers, of which it uses its own (the others are
-// left from earlier lines); the places of its list among its numbers, if it is an open or a month; and how many words it
-// is lent, with what they are filled.
+// What a line asks. The first six numbers of the buffer are copied for every call; a call with fewer arguments does not
+// use the rest, which may be left from earlier lines. `from` and `to` are the places of the list of an open or a month.
+// `lent` says how many words a close or a month is lent, and `fill` with what value they are filled.
 pub struct Asked {
     pub line: Line,
     pub first: u64,
@@ -33,7 +33,7 @@ pub struct Asked {
     pub fill: u64,
 }
 
-// The book after a line, and the answer.
+// The book after a line, and the answer to the line.
 pub struct Played {
     pub book: Book,
     pub answer: Answer,
@@ -58,7 +58,7 @@ fn asks_nothing(line: Line) -> Asked
     }
 }
 
-// A call with its lists.
+// A call with the places of its list, and with the words that it is lent.
 fn asks_with(line: Line, n: &[u64], from: usize, to: usize, lent: usize, fill: u64) -> Asked
     requires { ⌜ 6 ≤ length (now n) ⌝ }
     ensures { λ r. ⌜ r ≡ askedWith line (now (n .entry)) from to lent fill ⌝ }
@@ -78,8 +78,8 @@ fn asks_with(line: Line, n: &[u64], from: usize, to: usize, lent: usize, fill: u
     }
 }
 
-// A close or a month. The last two numbers of either say how many words it is lent, and with what they are filled; in
-// front of them, from the second number on, stand the amounts of a month.
+// A close or a month. Its last two numbers say how many words it is lent and with what value they are filled. The
+// amounts of a month stand before these two, from the second number on.
 fn asks_lent(line: Line, n: &[u64], count: usize) -> Asked
     requires { ⌜ (3 ≤ count) × (count ≤ length (now n)) × (6 ≤ length (now n)) ⌝ }
     ensures { λ r. ⌜ r ≡ askedLent line (now (n .entry)) count ⌝ }
@@ -103,7 +103,7 @@ fn asks_call(name: Name, count: usize, n: &[u64]) -> Asked
     }
 }
 
-// What the line asks that was taken, once it has ended.
+// What the line asks of which bytes were taken. It asks nothing before it has ended.
 pub fn ask(taken: Taken, line: &[u8], n: &mut [u64]) -> Asked
     requires { ⌜ (taken .size ≤ length (now line)) × (mostNumbers ≤ length (now n)) ⌝ }
     ensures { λ r. ⌜ r ≡ asks taken (now (line .entry)) (now (n .entry)) ⌝ }
@@ -201,7 +201,7 @@ pub fn offer(book: Book, a: Asked) -> Played
     }
 }
 
-// The first places are filled.
+// Fills the first count places with the value.
 fn fill(words: &mut [u64], count: usize, value: u64)
     requires { ⌜ count ≤ length (now words) ⌝ }
     ensures { λ _. ⌜ now (words .exit) ≡ replicate count value ++ drop count (now (words .entry)) ⌝ }
@@ -247,7 +247,7 @@ pub fn month(book: Book, a: Asked, n: &[u64], words: &mut [u64]) -> Played
     }
 }
 
-// What only reads the book leaves it as it is.
+// Status, Account and Look hand back the book unchanged, so the program keeps the one that it has.
 pub fn status(book: Book, a: Asked) -> Answer
     requires { ⌜ Valid book ⌝ }
     ensures { λ r. ⌜ r ≡ shows book a ⌝ }
@@ -279,6 +279,15 @@ pub fn look(book: Book, a: Asked) -> Answer
 {
     let looked = book.look(a.first);
     Answer::numbers(2, looked.answer, looked.obligation, 0)
+}
+
+// The edition of the rules that the book follows: the number of the latest change in docs/RULES.md.
+pub const EDITION: u64 = 0;
+
+pub fn rules() -> Answer
+    ensures { λ r. ⌜ r ≡ editionTold ⌝ }
+{
+    Answer::numbers(2, 0, EDITION, 0)
 }
 
 // Before the first line the book is the one that a refused Open returns.

@@ -1,41 +1,48 @@
 // settle: plays a journal from standard input on one book and writes the answers to standard output. It holds one line
-// at a time, so its memory does not grow with the journal, and whenever its input is used up all answers are written.
+// at a time, so its memory does not grow with the journal. Whenever its input is used up, it writes all answers so far.
+// With an argument on its command line it says what it is and plays nothing.
 use answers::Answer;
+use flow::Course;
 use reading::Line;
 use reading::Name;
 ghost use mathlib.Core.Path.{_≡_};
-ghost use Prim.Native.Nat.{_<_, _-_};
+ghost use Prim.Native.Nat.{_<_, _-_, _≤_};
 ghost use lib.ListN.{length};
-ghost use Rattle.basics.specs.Choice.{pick};
-ghost use Rattle.settle.specs.Turns.{Buffers, begins, PlaysIn};
+ghost use Rattle.settle.specs.Turns.{Buffers, begins, turnsLeft};
+ghost use Rattle.settle.specs.Ending.{PlaysIn};
 
+mod about;
 mod calls;
 mod flow;
 
-// The turns that are left: none once the input is over.
-fn turns_left(turns: u64, over: bool) -> u64
+// The number of turns that are left after a turn. There are none once the input is over or the run has failed.
+fn turns_left(turns: u64, course: Course) -> u64
     requires { ⌜ 0 < turns ⌝ }
-    ensures { λ r. ⌜ r ≡ pick over 0 (turns - 1) ⌝ }
+    ensures { λ r. ⌜ r ≡ turnsLeft course turns ⌝ }
 {
-    if over {
-        return 0;
+    match course {
+        Course::Going => turns - 1,
+        Course::Over => 0,
+        Course::Failed => 0,
     }
-    turns - 1
 }
 
-// A proved loop has to end, and nothing says that a journal does. So the loop counts its turns down, from a number that
-// no run uses up. A turn takes bytes of one line, and plays the line if it has ended. The calls stand here, each with
-// the book that it takes and hands back, so that the book is not copied once more on its way to them.
+// Plays the journal. A proved loop has to end, but a journal may go on for ever. So the loop counts its turns down from
+// a number that no run uses up. A turn takes bytes of one line, and plays the line if it has ended. The calls are made
+// here and not in a function of their own, because the book would be copied once more on its way to that function. The
+// result is the number of bytes of the output that are still to be written. If the whole journal was played, they end
+// with the line `end`.
 fn settle_all(
     part: &mut [u8],
     line: &mut [u8],
     numbers: &mut [u64],
     words: &mut [u64],
     out: &mut [u8],
-)
+) -> usize
     requires { ⌜ Buffers (now line) (now numbers) (now words) (now out) ⌝ }
-    ensures { λ _. ⌜ PlaysIn (begins (now (part .entry)) (now (line .entry)) (now (numbers .entry)) (now (words .entry)) (now (out .entry)))
-        (now (part .exit)) (now (line .exit)) (now (numbers .exit)) (now (words .exit)) (now (out .exit)) ⌝ }
+    ensures { λ r. ⌜ r ≤ length (now (out .exit)) ⌝ }
+    ensures { λ r. ⌜ PlaysIn (begins (now (part .entry)) (now (line .entry)) (now (numbers .entry)) (now (words .entry)) (now (out .entry)))
+        (now (part .exit)) (now (line .exit)) (now (numbers .exit)) (now (words .exit)) (now (out .exit)) r ⌝ }
 {
     let mut turns = u64::MAX;
     let mut flow = flow::start();
@@ -58,17 +65,20 @@ fn settle_all(
                 Name::Status => played.answer = calls::status(played.book, asked),
                 Name::Account => played.answer = calls::account(played.book, asked),
                 Name::Look => played.answer = calls::look(played.book, asked),
+                Name::Rules => played.answer = calls::rules(),
             },
             Line::Comment => played.answer = Answer::nothing(),
             Line::NoCall => played.answer = Answer::no_call(),
         }
         flow = flow::tell(fed, taken, played.answer, words, out);
-        turns = turns_left(turns, taken.over);
+        let course = flow.course;
+        turns = turns_left(turns, course);
     }
-    flow::write_out(out, flow.end);
+    flow::tell_last(flow, line, out)
 }
 
-// Places for the bytes of a line: one more than a call's line may have, so that a longer line is seen to be longer.
+// Places for the bytes of a line. There is one more than a call's line may have bytes, so that a line that is too long
+// can be told from one that is not.
 fn line_places() -> [u8; 65537]
     ensures { λ r. ⌜ 65537 ≡ length r ⌝ }
 {
@@ -96,11 +106,21 @@ fn answer_places() -> [u8; 131072]
     [0; 131072]
 }
 
-fn main() {
+// Plays the journal, and writes what is left of the output.
+fn play() {
     let mut part = io::large_buffer();
     let mut line = line_places();
     let mut numbers = number_places();
     let mut words = word_places();
     let mut out = answer_places();
-    settle_all(&mut part, &mut line, &mut numbers, &mut words, &mut out);
+    let end = settle_all(&mut part, &mut line, &mut numbers, &mut words, &mut out);
+    flow::write_out(&out, end);
+}
+
+fn main() {
+    if 1 < os::arg_count() {
+        about::tell();
+        return;
+    }
+    play();
 }

@@ -1,4 +1,4 @@
--- The digits of a number: which and how many there are.
+-- Which digits a number has, and how many.
 use Prim.Native.Nat.{ℕ, zero, suc, _+_, _/_, _%_, _^_, _≤_, _<_}
 use native.Mathlib.Nat.{pow-suc}
 use native.Mathlib.Omega.{arith}
@@ -12,11 +12,11 @@ use Rattle.basics.specs.Choice.{pick}
 use Rattle.basics.proofs.Cases.{pick-case}
 use Rattle.writing.specs.Digits.{digit, digitsWithin, digitsOf, signedOf}
 
--- the tenth part of a number that has at most k + 1 digits
+-- the tenth part of a number with at most k + 1 digits has at most k
 pub tenth-below : (k n : ℕ) → n < 10 ^ suc k → n / 10 < 10 ^ k
 tenth-below k n h = let e = pow-suc 10 k in omega arith
 
--- a number that has at most k + 1 digits has the same ones among k + 2
+-- a number with at most k + 1 digits has the same digits if k + 2 are allowed
 digits-fewer : (k n : ℕ) → n < 10 ^ suc k → digitsWithin (suc (suc k)) n ≡ digitsWithin (suc k) n
 unfolding digitsWithin
 digits-fewer zero n h = rw (lt-ltb n 10 h)
@@ -37,7 +37,7 @@ pub digits-most : (n : ℕ) → length (digitsOf n) ≤ 20
 unfolding digitsOf
 digits-most n = digits-within 20 n
 
--- a number up to 2 ^ 63 has at most 19
+-- a number up to 2 ^ 63 has at most 19 digits
 pub digits-most-signed : (n : ℕ) → n ≤ 2 ^ 63 → length (digitsOf n) ≤ 19
 unfolding digitsOf
 digits-most-signed n h = rw (digits-fewer 18 n (omega arith)) (digits-within 19 n)
@@ -48,7 +48,7 @@ unfolding signedOf
 signed-most (pos n) = omega (arith, digits-most n)
 signed-most (negsuc n) = omega (arith, digits-most (suc n))
 
--- a number below ten is its digit
+-- a number below ten has one digit
 pub digits-one : (n : ℕ) → n < 10 → digitsOf n ≡ digit n ∷ []
 unfolding digitsOf digitsWithin
 digits-one n h = rw (lt-ltb n 10 h)
@@ -57,13 +57,13 @@ digits-last : (n : ℕ) → 10 ≤ n → digitsWithin 20 n ≡ digitsWithin 19 (
 unfolding digitsWithin
 digits-last n h = rw (le-ltb n 10 h)
 
--- any other is the digits of its tenth part, and then its last
+-- any other number has the digits of its tenth part, and then its last digit
 pub digits-more : (n : ℕ) → 10 ≤ n → n < 2 ^ 64 → digitsOf n ≡ digitsOf (n / 10) ++ digit (n % 10) ∷ []
 unfolding digitsOf
 digits-more n h f =
     digits-last n h ∙ ap (λ (l : List ℕ). l ++ digit (n % 10) ∷ []) (sym (digits-fewer 18 (n / 10) (omega arith)))
 
--- every number has a digit
+-- every number has at least one digit
 pub digits-some : (k n : ℕ) → 0 < length (digitsWithin (suc k) n)
 unfolding digitsWithin
 digits-some k n =
@@ -71,7 +71,7 @@ digits-some k n =
     (λ e. omega arith)
     (λ e. omega (arith, length-append (digitsWithin k (n / 10)) (digit (n % 10) ∷ [])))
 
--- the tenth part has one digit less
+-- the tenth part of a number has one digit fewer
 pub digits-shorter : (n : ℕ) → 10 ≤ n → n < 2 ^ 64 → length (digitsOf n) ≡ length (digitsOf (n / 10)) + 1
 digits-shorter n h f =
     ap length (digits-more n h f) ∙ length-append (digitsOf (n / 10)) (digit (n % 10) ∷ [])

@@ -1,4 +1,4 @@
--- The laws of what is written. Digits and Signed: of the digits of a number. Writing: of bytes that are written one
+-- Laws of writing. Digits: the digits of a number. Signed: numbers with a sign. Writing: bytes that are written one
 -- after another.
 pub mod Digits
 pub mod Signed

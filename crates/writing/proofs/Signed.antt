@@ -1,4 +1,4 @@
--- Signed numbers in 64 bits: that the machine computes how far each is from zero.
+-- Signed numbers of 64 bits: the machine computes rightly how far each is from zero.
 use Prim.Native.Nat.{ℕ, suc, _+_, _≤_}
 use native.Mathlib.Numerals.{add-one}
 use native.Mathlib.Omega.{arith}
@@ -35,11 +35,11 @@ above : (z : ℤ) → ltZ z (pos 0) ≡ false → T (nonNeg z) × (natAbs z ≡ 
 above (pos n) e = (tt, refl)
 above (negsuc n) e = absurd (never (sym e))
 
--- a number that is read from its bits
+-- a number as it is read from its bits
 abbrev read : ℤ → ℤ
 read z = toZ w64 (ofZ w64 z)
 
--- what the machine computes of a number below zero: -1 less the number, and one more
+-- what the machine computes for a number below zero: -1 minus the number, and then one more
 abbrev less : ℤ → ℤ
 less z = negsuc 0 -ℤ read z
 

@@ -1,4 +1,4 @@
--- Lines out.
+-- The text of answers: numbers on a line, labels, and line feeds (docs/JOURNAL.md, Lines out).
 use Prim.Native.Nat.{ℕ, _+_}
 use mathlib.Core.Path.{_≡_}
 use mathlib.Core.List.{List, [], _∷_, _++_, map}
@@ -7,8 +7,8 @@ use lib.Seq.{sets}
 use Rattle.writing.specs.Digits.{digitsOf}
 use Rattle.writing.specs.Words.{joined}
 
--- Bytes are written at a place of a list: there they stand, every other byte is as it was, and the next place is the
--- one behind them.
+-- Bytes are written at a place of the output. They stand there, every other byte is as it was, and the next place is
+-- the one after them.
 pub record Wrote (bytes out : List ℕ) (at : ℕ) (after : List ℕ) (next : ℕ) : Type 0 where
   pub stands : after ≡ sets out at bytes
   pub place : next ≡ at + length bytes
@@ -25,6 +25,14 @@ textOf ns = joined (map digitsOf ns)
 unfoldable pub answerOf : List ℕ → List ℕ
 answerOf ns = textOf ns ++ lineFeed ∷ []
 
--- the answer to a line that is no call: ? line N
+-- a label, a number and a line feed
+unfoldable pub labelled : List ℕ → ℕ → List ℕ
+labelled label n = label ++ digitsOf n ++ lineFeed ∷ []
+
+-- the answer to a line that is no call: `? line N` (docs/JOURNAL.md, What is no call)
 unfoldable pub noCallOf : ℕ → List ℕ
-noCallOf n = 63 ∷ 32 ∷ 108 ∷ 105 ∷ 110 ∷ 101 ∷ 32 ∷ digitsOf n ++ lineFeed ∷ []
+noCallOf n = labelled (63 ∷ 32 ∷ 108 ∷ 105 ∷ 110 ∷ 101 ∷ 32 ∷ []) n
+
+-- the last line of the output, once all N lines of a text were played and answered: `end N`
+unfoldable pub endOf : ℕ → List ℕ
+endOf n = labelled (101 ∷ 110 ∷ 100 ∷ 32 ∷ []) n

@@ -1,4 +1,4 @@
--- The digits of a number.
+-- The digits of a number, with and without a sign.
 use Prim.Native.Nat.{ℕ, zero, suc, _+_, _/_, _%_}
 use mathlib.Core.List.{List, [], _∷_, _++_}
 use lib.Dec.{ltb}
@@ -9,8 +9,8 @@ use Rattle.basics.specs.Choice.{pick}
 abbrev pub digit : ℕ → ℕ
 digit d = 48 + d
 
--- the digits of a number of at most k digits, with no zero in front: below ten its one digit, else the digits of its
--- tenth part and then its last digit
+-- The digits of a number that has at most k digits, with no zero in front. A number below ten has one digit. Any other
+-- has the digits of its tenth part and then its last digit.
 unfoldable pub digitsWithin : ℕ → ℕ → List ℕ
 digitsWithin zero n = []
 digitsWithin (suc k) n = pick (ltb n 10) (digit n ∷ []) (digitsWithin k (n / 10) ++ digit (n % 10) ∷ [])

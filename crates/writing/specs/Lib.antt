@@ -1,4 +1,5 @@
--- What is written. Digits: of numbers. Words: on a line. Answers: what stands where.
+-- What is written. Digits: the digits of a number. Words: words on a line, with spaces between them. Answers: the text
+-- of answers.
 pub mod Digits
 pub mod Words
 pub mod Answers

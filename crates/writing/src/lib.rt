@@ -1,16 +1,17 @@
-// Answers as text: numbers, with and without a sign, to bytes at a place of the output.
+// Writes numbers, labels and line feeds as text at a place of the output. Each function answers the place after what it
+// wrote.
 ghost use mathlib.Core.List.{_∷_, map};
 ghost use Prim.Native.Nat.{_+_, _*_, _≤_, _<_};
 ghost use lib.ListN.{length};
 ghost use Rattle.writing.specs.Digits.{digitsOf, signedOf};
 ghost use Rattle.writing.specs.Words.{space, spaced};
-ghost use Rattle.writing.specs.Answers.{Wrote, textOf, answerOf, noCallOf};
+ghost use Rattle.writing.specs.Answers.{Wrote, textOf, answerOf, labelled, noCallOf, endOf};
 
 const SPACE: u8 = b' ';
 
 const LINE_FEED: u8 = b'\n';
 
-// Bytes at a place.
+// Writes bytes at a place.
 pub fn write_bytes(out: &mut [u8], at: usize, bytes: &[u8]) -> usize
     requires { ⌜ at + length (now bytes) ≤ length (now out) ⌝ }
     ensures { λ r. ⌜ Wrote (now (bytes .entry)) (now (out .entry)) at (now (out .exit)) r ⌝ }
@@ -23,7 +24,7 @@ pub fn write_bytes(out: &mut [u8], at: usize, bytes: &[u8]) -> usize
     at + i
 }
 
-// The digits of a number at a place: those of its tenth part, and then its last.
+// Writes the digits of a number at a place: those of its tenth part, and then the last one.
 fn put_digits(out: &mut [u8], at: usize, n: u64) -> usize
     requires { ⌜ at + length (digitsOf n) ≤ length (now out) ⌝ }
     ensures { λ r. ⌜ Wrote (digitsOf n) (now (out .entry)) at (now (out .exit)) r ⌝ }
@@ -37,7 +38,7 @@ fn put_digits(out: &mut [u8], at: usize, n: u64) -> usize
     next + 1
 }
 
-// A number at a place, in at most 20 digits.
+// Writes a number at a place, in at most 20 digits.
 pub fn write_number(out: &mut [u8], at: usize, n: u64) -> usize
     requires { ⌜ at + 20 ≤ length (now out) ⌝ }
     ensures { λ r. ⌜ Wrote (digitsOf n) (now (out .entry)) at (now (out .exit)) r ⌝ }
@@ -45,8 +46,8 @@ pub fn write_number(out: &mut [u8], at: usize, n: u64) -> usize
     put_digits(out, at, n)
 }
 
-// A number with its sign at a place. What is below zero is turned about from -1, since 0 less the least number of 64
-// bits would not fit.
+// Writes a number with its sign at a place. The size of a negative number is computed as 1 more than its distance from
+// -1, because the distance of the least number from 0 does not fit a signed number of 64 bits.
 pub fn write_signed(out: &mut [u8], at: usize, z: i64) -> usize
     requires { ⌜ at + 20 ≤ length (now out) ⌝ }
     ensures { λ r. ⌜ Wrote (signedOf z) (now (out .entry)) at (now (out .exit)) r ⌝ }
@@ -59,7 +60,7 @@ pub fn write_signed(out: &mut [u8], at: usize, z: i64) -> usize
     put_digits(out, at, z as u64)
 }
 
-// A space and a number at a place.
+// Writes a space and a number at a place.
 pub fn write_spaced(out: &mut [u8], at: usize, n: u64) -> usize
     requires { ⌜ at + 21 ≤ length (now out) ⌝ }
     ensures { λ r. ⌜ Wrote (space ∷ digitsOf n) (now (out .entry)) at (now (out .exit)) r ⌝ }
@@ -68,7 +69,7 @@ pub fn write_spaced(out: &mut [u8], at: usize, n: u64) -> usize
     put_digits(out, at + 1, n)
 }
 
-// Numbers at a place, with a space in front of each.
+// Writes numbers at a place, with a space in front of each.
 pub fn write_further(out: &mut [u8], at: usize, numbers: &[u64]) -> usize
     requires { ⌜ at + 21 * length (now numbers) ≤ length (now out) ⌝ }
     ensures { λ r. ⌜ Wrote (spaced (map digitsOf (now (numbers .entry)))) (now (out .entry)) at (now (out .exit)) r ⌝ }
@@ -82,7 +83,7 @@ pub fn write_further(out: &mut [u8], at: usize, numbers: &[u64]) -> usize
     next
 }
 
-// Numbers at a place, with one space between two.
+// Writes numbers at a place, with one space between two.
 pub fn write_numbers(out: &mut [u8], at: usize, numbers: &[u64]) -> usize
     requires { ⌜ at + 21 * length (now numbers) ≤ length (now out) ⌝ }
     ensures { λ r. ⌜ Wrote (textOf (now (numbers .entry))) (now (out .entry)) at (now (out .exit)) r ⌝ }
@@ -94,7 +95,7 @@ pub fn write_numbers(out: &mut [u8], at: usize, numbers: &[u64]) -> usize
     write_further(out, next, &numbers[1..])
 }
 
-// An answer at a place: its numbers, and a line feed.
+// Writes an answer at a place: its numbers, and a line feed.
 pub fn write_answer(out: &mut [u8], at: usize, numbers: &[u64]) -> usize
     requires { ⌜ at + 21 * length (now numbers) < length (now out) ⌝ }
     ensures { λ r. ⌜ Wrote (answerOf (now (numbers .entry))) (now (out .entry)) at (now (out .exit)) r ⌝ }
@@ -104,13 +105,29 @@ pub fn write_answer(out: &mut [u8], at: usize, numbers: &[u64]) -> usize
     end + 1
 }
 
-// The answer to a line that is no call, by the line's number.
+// Writes a label, a number and a line feed at a place.
+pub fn write_labelled(out: &mut [u8], at: usize, label: &[u8], n: u64) -> usize
+    requires { ⌜ at + length (now label) + 21 ≤ length (now out) ⌝ }
+    ensures { λ r. ⌜ Wrote (labelled (now (label .entry)) n) (now (out .entry)) at (now (out .exit)) r ⌝ }
+{
+    let next = write_bytes(out, at, label);
+    let end = put_digits(out, next, n);
+    out[end] = LINE_FEED;
+    end + 1
+}
+
+// Writes the answer to a line that is no call, given the line's number.
 pub fn write_no_call(out: &mut [u8], at: usize, line: u64) -> usize
     requires { ⌜ at + 28 ≤ length (now out) ⌝ }
     ensures { λ r. ⌜ Wrote (noCallOf line) (now (out .entry)) at (now (out .exit)) r ⌝ }
 {
-    let next = write_bytes(out, at, b"? line ");
-    let end = put_digits(out, next, line);
-    out[end] = LINE_FEED;
-    end + 1
+    write_labelled(out, at, b"? line ", line)
+}
+
+// Writes the last line of the output, given the number of lines of the text.
+pub fn write_end(out: &mut [u8], at: usize, lines: u64) -> usize
+    requires { ⌜ at + 25 ≤ length (now out) ⌝ }
+    ensures { λ r. ⌜ Wrote (endOf lines) (now (out .entry)) at (now (out .exit)) r ⌝ }
+{
+    write_labelled(out, at, b"end ", lines)
 }

@@ -1,4 +1,4 @@
--- `ended` meets its contract: the two ways of its test.
+-- `ended` meets its contract: there is one proof for each outcome of its test.
 use borrow.Author.Tests.{eq-eqb, ne-eqb}
 use Rattle.reading.proofs.ended.Statement.{statement}
 use Rattle.reading.proofs.ended.Tie as tie

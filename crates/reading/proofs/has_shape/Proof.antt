@@ -1,5 +1,5 @@
--- `has_shape` meets its contract: three calls have a test of their own, and the shape of every other is a fixed
--- count.
+-- `has_shape` meets its contract: three calls have a test of their own, and every other call has a fixed count of
+-- numbers.
 use mathlib.Core.Path.{refl}
 use borrow.Author.Needs.{needs}
 use Rattle.reading.specs.Calls.{counted, listsOf}
@@ -49,6 +49,9 @@ enum-told-10 c = search needs
 enum-told-11 : tie.Need-enum-told-11
 enum-told-11 c = search needs
 
+enum-told-12 : tie.Need-enum-told-12
+enum-told-12 c = search needs
+
 returns : tie.Need-returns
 returns c = rw (c .before .enum-told .given .1) (c .is-open .ensures)
 
@@ -90,6 +93,10 @@ returns-11 : tie.Need-returns-11
 unfolding counted listsOf
 returns-11 c = shape-fixed _ _ (c .before .before .before .pre) _ _ 1 (c .enum-told11 .given .1) refl refl
 
+returns-12 : tie.Need-returns-12
+unfolding counted listsOf
+returns-12 c = shape-fixed _ _ (c .before .before .before .pre) _ _ 0 (c .enum-told12 .given .1) refl refl
+
 pub has-shape-spec : {M : Type 1} → statement M
 has-shape-spec =
     tie.close
@@ -108,6 +115,7 @@ has-shape-spec =
     enum-told-9
     enum-told-10
     enum-told-11
+    enum-told-12
     returns
     returns-2
     returns-3
@@ -118,4 +126,5 @@ has-shape-spec =
     returns-8
     returns-9
     returns-10
-    returns-11)
+    returns-11
+    returns-12)

@@ -1,4 +1,4 @@
--- `is_close` meets its contract: the laws of a close's shape, one for each way of its test.
+-- `is_close` meets its contract: there is a law on a close's shape for each outcome of its test.
 use borrow.Author.Needs.{needs}
 use Rattle.reading.proofs.Shapes.{close-other, close-right}
 use Rattle.reading.proofs.is_close.Statement.{statement}

@@ -1,4 +1,4 @@
--- `is_month` meets its contract: the laws of a month's shape, one for each way of its tests.
+-- `is_month` meets its contract: there is a law on a month's shape for each outcome of its tests.
 use borrow.Author.Needs.{needs}
 use Rattle.reading.proofs.Shapes.{month-few, month-long, month-other, month-right}
 use Rattle.reading.proofs.is_month.Statement.{statement}

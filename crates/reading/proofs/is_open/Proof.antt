@@ -1,4 +1,4 @@
--- `is_open` meets its contract: the laws of an open's shape, one for each way of its tests.
+-- `is_open` meets its contract: there is a law on an open's shape for each outcome of its tests.
 use borrow.Author.Needs.{needs}
 use Rattle.reading.proofs.Shapes.{open-few, open-long, open-right}
 use Rattle.reading.proofs.is_open.Statement.{statement}

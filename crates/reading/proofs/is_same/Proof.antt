@@ -1,5 +1,5 @@
--- `is_same` meets its contract. The loop's invariant: the bytes to come decide, since those passed were the same. The
--- measure is how many bytes are left.
+-- `is_same` meets its contract. The loop's invariant: all bytes so far were the same, so the remaining bytes decide.
+-- The measure is how many bytes are left.
 use Prim.Native.Nat.{_-_, _≤_}
 use native.Mathlib.Omega.{arith}
 use mathlib.Core.Path.{_≡_, refl, sym, _∙_}

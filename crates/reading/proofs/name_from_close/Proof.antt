@@ -1,5 +1,5 @@
--- `name_from_close` meets its contract. `passed-k`: where the first k names were not the word, the table is searched from the
--- next name on.
+-- `name_from_close` meets its contract. By `passed-k`, if the word is none of the first k names, it is looked up among
+-- the names after them.
 use Prim.Native.Nat.{ℕ}
 use mathlib.Core.List.{List}
 use mathlib.Core.Path.{_≡_, sym, ap, _∙_}
@@ -11,7 +11,7 @@ use Rattle.reading.proofs.Spelling.{found-here, found-later}
 use Rattle.reading.proofs.name_from_close.Statement.{statement}
 use Rattle.reading.proofs.name_from_close.Tie as tie
 
--- the word, where the first k names were not it
+-- the word, after it was found to be none of the first k names
 abbrev word-1 : tie.Else1 → List ℕ
 word-1 c = c .before .before .before .before .args .word .now
 
@@ -26,6 +26,9 @@ word-4 c = word-3 (c .before .before .before)
 
 abbrev word-5 : tie.Else5 → List ℕ
 word-5 c = word-4 (c .before .before .before)
+
+abbrev word-6 : tie.Else6 → List ℕ
+word-6 c = word-5 (c .before .before .before)
 
 passed-1 : (c : tie.Else1) → found (word-1 c) (drop 6 namings) ≡ found (word-1 c) (drop 7 namings)
 unfolding namings
@@ -46,6 +49,10 @@ passed-4 c = passed-3 (c .before .before .before) ∙ found-later _ _ _ _ (c .be
 passed-5 : (c : tie.Else5) → found (word-5 c) (drop 6 namings) ≡ found (word-5 c) (drop 11 namings)
 unfolding namings
 passed-5 c = passed-4 (c .before .before .before) ∙ found-later _ _ _ _ (c .before .is-same5 .ensures) (c .if5 .left)
+
+passed-6 : (c : tie.Else6) → found (word-6 c) (drop 6 namings) ≡ found (word-6 c) (drop 12 namings)
+unfolding namings
+passed-6 c = passed-5 (c .before .before .before) ∙ found-later _ _ _ _ (c .before .is-same6 .ensures) (c .if6 .left)
 
 slice-aggregate-is-same : tie.Need-slice-aggregate-is-same
 slice-aggregate-is-same c = search needs
@@ -105,9 +112,21 @@ returns-5 c =
     ap namedOf
     (sym (passed-4 (c .before .before .before) ∙ found-here _ _ _ _ (c .before .is-same5 .ensures) (c .if5 .taken)))
 
+slice-aggregate-is-same-6 : tie.Need-slice-aggregate-is-same-6
+slice-aggregate-is-same-6 c = search needs
+
+is-same-requires-6 : tie.Need-is-same-requires-6
+is-same-requires-6 c κs = search needs
+
 returns-6 : tie.Need-returns-6
+unfolding namings namedOf
+returns-6 c =
+    ap namedOf
+    (sym (passed-5 (c .before .before .before) ∙ found-here _ _ _ _ (c .before .is-same6 .ensures) (c .if6 .taken)))
+
+returns-7 : tie.Need-returns-7
 unfolding namings found namedOf
-returns-6 c = ap namedOf (sym (passed-5 c))
+returns-7 c = ap namedOf (sym (passed-6 c))
 
 pub name-from-close-spec : {M : Type 1} → statement M
 name-from-close-spec =
@@ -128,4 +147,7 @@ name-from-close-spec =
     slice-aggregate-is-same-5
     is-same-requires-5
     returns-5
-    returns-6)
+    slice-aggregate-is-same-6
+    is-same-requires-6
+    returns-6
+    returns-7)

@@ -1,5 +1,5 @@
--- `name_of` meets its contract. `passed-k`: where the first k names were not the word, the table is searched from the
--- next name on.
+-- `name_of` meets its contract. By `passed-k`, if the word is none of the first k names, it is looked up among the
+-- names after them.
 use Prim.Native.Nat.{ℕ}
 use mathlib.Core.List.{List}
 use mathlib.Core.Path.{_≡_, sym, ap, _∙_}
@@ -11,7 +11,7 @@ use Rattle.reading.proofs.Spelling.{found-here, found-later}
 use Rattle.reading.proofs.name_of.Statement.{statement}
 use Rattle.reading.proofs.name_of.Tie as tie
 
--- the word, where the first k names were not it
+-- the word, after it was found to be none of the first k names
 abbrev word-1 : tie.Else1 → List ℕ
 word-1 c = c .before .before .before .before .args .word .now
 

@@ -1,14 +1,14 @@
--- `read_line` meets its contract: what a line says is a law for each place where reading it ends.
+-- `read_line` meets its contract: there is a law on what the line says for each place where the function returns.
 use Prim.Native.Nat.{ℕ}
 use native.Mathlib.Omega.{arith}
 use mathlib.Core.List.{List}
 use mathlib.Core.Path.{sym, _∙_}
 use borrow.Author.Needs.{needs}
-use Rattle.reading.proofs.Understanding.{Plain, Headed, empty-comment, hash-comment, too-long, word-length, word-behind, unnamed, alone, not-all, count-within, is-call, wrong-shape}
+use Rattle.reading.proofs.Understanding.{Plain, Headed, empty-comment, hash-comment, too-long, word-length, word-behind, unnamed, alone, not-all, count-within, is-shaped}
 use Rattle.reading.proofs.read_line.Statement.{statement}
 use Rattle.reading.proofs.read_line.Tie as tie
 
--- past the tests of a comment and of the length
+-- after its first three tests the line is known to be no comment and not too long
 plain : (c : tie.Else3) → Plain (c .before .before .before .before .before .before .args .line .now)
 plain c = record { filled = c .before .before .before .if1 .left; other = c .before .if2 .left; short = c .if3 .left }
 
@@ -16,7 +16,7 @@ plain c = record { filled = c .before .before .before .if1 .left; other = c .bef
 abbrev line : tie.After-known-told → List ℕ
 line c = c .before .before .before .before .before .before .before .before .before .before .before .before .args .line .now
 
--- past the name
+-- after the name was found the line is known to begin with it
 headed : (c : tie.After-known-told) → Headed (line c) (c .before .before .before .before .before .word-end .result) (c .before .name .given .0 .0)
 headed c = record {
   plain = plain (c .before .before .before .before .before .before);
@@ -59,8 +59,14 @@ returns-4 c =
     unnamed _ _ _ (plain (end .before)) (end .word-end .ensures)
     (sym (c .enum-told .given .1) ∙ c .before .before .name-of .ensures)
 
+shaped-requires : tie.Need-shaped-requires
+shaped-requires c κs = search needs
+
+same-length : tie.Need-same-length
+same-length c = search needs
+
 returns-5 : tie.Need-returns-5
-returns-5 c = alone _ _ _ _ (headed (c .before)) (c .if4 .taken)
+returns-5 c = rw (c .shaped .ensures) (alone _ _ _ _ (headed (c .before .before .before)) (c .before .before .if4 .taken))
 
 add-read-numbers : tie.Need-add-read-numbers
 add-read-numbers c =
@@ -81,8 +87,8 @@ enum-known-count c = search needs
 enum-told-2 : tie.Need-enum-told-2
 enum-told-2 c = search needs
 
-same-length : tie.Need-same-length
-same-length c = search needs
+same-length-2 : tie.Need-same-length-2
+same-length-2 c = search needs
 
 returns-6 : tie.Need-returns-6
 returns-6 c =
@@ -92,8 +98,8 @@ returns-6 c =
     (name .before .before .before .before .before .before .before .before .before .before .before .before .pre)
     (sym (c .enum-told2 .given .1) ∙ numbers .ensures .0)
 
-has-shape-requires : tie.Need-has-shape-requires
-has-shape-requires c κs =
+shaped-requires-2 : tie.Need-shaped-requires-2
+shaped-requires-2 c κs =
     let name = c .before .before .before .before .before .before .before .before .before in
     let start = name .before .before .before .before .before .before .before .before .before .before .before .before in
     let numbers = c .before .before .before .before .before .before .read-numbers in
@@ -104,31 +110,18 @@ has-shape-requires c κs =
     _
     (sym (c .before .before .count .given .1) ∙ numbers .ensures .0)
 
-same-length-2 : tie.Need-same-length-2
-same-length-2 c = search needs
-
-returns-7 : tie.Need-returns-7
-returns-7 c =
-    let name = c .before .before .before .before .before .before .before .before .before .before .before in
-    let numbers = c .before .before .before .before .before .before .before .before .read-numbers in
-    is-call _ _ _ _ (headed name) (c .before .before .before .before .before .before .before .before .before .before .if4 .left) _
-    (numbers .ensures .1)
-    _
-    (sym (c .before .before .before .before .count .given .1) ∙ numbers .ensures .0)
-    (sym (c .before .has-shape .ensures) ∙ c .if5 .taken)
-
 same-length-3 : tie.Need-same-length-3
 same-length-3 c = search needs
 
-returns-8 : tie.Need-returns-8
-returns-8 c =
-    let name = c .before .before .before .before .before .before .before .before .before .before .before in
-    let numbers = c .before .before .before .before .before .before .before .before .read-numbers in
-    wrong-shape _ _ _ _ (headed name) (c .before .before .before .before .before .before .before .before .before .before .if4 .left) _
+returns-7 : tie.Need-returns-7
+returns-7 c =
+    let name = c .before .before .before .before .before .before .before .before .before .before in
+    let numbers = c .before .before .before .before .before .before .before .read-numbers in
+    rw (c .shaped2 .ensures)
+    (is-shaped _ _ _ _ (headed name) (c .before .before .before .before .before .before .before .before .before .if4 .left) _
     (numbers .ensures .1)
     _
-    (sym (c .before .before .before .before .count .given .1) ∙ numbers .ensures .0)
-    (sym (c .before .has-shape .ensures) ∙ c .if5 .left)
+    (sym (c .before .before .before .count .given .1) ∙ numbers .ensures .0))
 
 pub read-line-spec : {M : Type 1} → statement M
 read-line-spec =
@@ -144,15 +137,15 @@ read-line-spec =
     enum-known-name
     enum-told
     returns-4
+    shaped-requires
+    same-length
     returns-5
     add-read-numbers
     read-numbers-requires
     enum-known-count
     enum-told-2
-    same-length
-    returns-6
-    has-shape-requires
     same-length-2
-    returns-7
+    returns-6
+    shaped-requires-2
     same-length-3
-    returns-8)
+    returns-7)

@@ -1,5 +1,5 @@
--- `read_numbers` meets its contract. The loop's invariant is `Collected`: the numbers read stand in the first places,
--- and with what is left of the line they give what all its words give. The measure is how many places are free.
+-- `read_numbers` meets its contract. The loop's invariant is `Collected`: the numbers so far stand in the first places,
+-- and with those of the rest of the line they are all the numbers. The measure is how many places are free.
 use Prim.Native.Nat.{_-_}
 use native.Mathlib.Omega.{arith}
 use mathlib.Core.Path.{sym, _∙_}

@@ -1,5 +1,5 @@
--- `read_word` meets its contract. The loop's invariant is `Read`: what is left of the word, read on from the value,
--- gives what the whole word gives. The measure is how many bytes are left.
+-- `read_word` meets its contract. The loop's invariant is `Read`: the value so far, with what is left of the word,
+-- gives the same number as the whole word. The measure is how many bytes are left.
 use Prim.Native.Nat.{_-_}
 use native.Mathlib.Omega.{arith}
 use mathlib.Core.Path.{_∙_}

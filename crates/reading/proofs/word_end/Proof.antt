@@ -1,5 +1,5 @@
--- `word_end` meets its contract. The loop's invariant: what is left of the word behind the bytes passed is what lacks
--- to its length. The measure is how many bytes are left.
+-- `word_end` meets its contract. The loop's invariant: the place and the length of what is left of the word always add
+-- up to the word's length. The measure is how many bytes are left.
 use Prim.Native.Nat.{_+_, _-_, _≤_}
 use native.Mathlib.Omega.{arith}
 use mathlib.Core.Path.{_≡_, ap}

@@ -1,4 +1,5 @@
--- `settle_all` meets its contract: every turn is as defined.
+-- `settle_all` meets its contract. The loop's invariant: `Stands` holds, and the buffers keep their lengths. The
+-- measure is how many turns are left.
 use native.Mathlib.Omega.{arith}
 use Prim.Native.Nat.{ℕ}
 use mathlib.Core.Path.{_≡_, refl, ap, _∙_}
@@ -15,8 +16,9 @@ use Rattle.settle.specs.declared.flow.Flow.{Flow}
 use Rattle.settle.specs.declared.calls.Played.{Played}
 use Rattle.settle.specs.Calls.{played, lentTo}
 use Rattle.settle.specs.Turns.{Held, begins}
-use Rattle.settle.specs.Turns.Gives.{opening, entering, withdrawing, cancelling, delivering, offering, closing, paying, showing, balancing, looking, passing, objecting}
-use Rattle.settle.proofs.Turning.{Stands, standing, stopped, Given, given-by, turned, fewer, fed-within, took-within}
+use Rattle.settle.specs.Turns.Gives.{opening, entering, withdrawing, cancelling, delivering, offering, closing, paying, showing, balancing, looking, ruling, passing, objecting}
+use Rattle.settle.proofs.Turning.{Stands, standing, stopped, Given, given-by, turned, fewer, took-within}
+use Rattle.settle.proofs.Flows.{fed-kept, fed-ready}
 use Rattle.settle.proofs.settle_all.Statement.{statement}
 use Rattle.settle.proofs.settle_all.Tie as tie
 
@@ -47,15 +49,21 @@ loop-holds c = let s = c .before .before .before .before .before .before .before
     (rw (book, c .before .start .ensures) first, refl, refl, refl, refl, refl)
 
 feed-on-requires : tie.Need-feed-on-requires Inv-loop μ-loop
-feed-on-requires c κs = let s = c .before .before .before .loop .inv .0 in (s .read, s .within)
+feed-on-requires c κs = let s = c .before .before .before .loop .inv .0 in (s .within, s .room .writable)
 
 take-requires : tie.Need-take-requires Inv-loop μ-loop
-take-requires c κs = let s = c .before .before .before .before .before .before .before .before .loop .inv .0 in let fed = c .before .before .before .before .feed-on in
-    (omega (arith, fed .ensures .within, fed .kept .1 .0), omega (arith, s .held, fed-within (fed .ensures) .0))
+take-requires c κs =
+    let s = c .before .before .before .before .before .before .before .before .loop .inv .0 in
+    let fed = c .before .before .before .before .feed-on in
+    let on = fed-kept (fed .ensures) (s .read) in
+    let fit = fed-ready (fed .ensures) (s .room .writable) (s .ordered) in
+    (fit .ordered, on .within, omega (arith, on .held, s .held))
 
 ask-requires : tie.Need-ask-requires Inv-loop μ-loop
-ask-requires c κs = let s = c .before .before .before .before .before .before .before .before .before .before .before .before .before .loop .inv .0 in let fed = c .before .before .before .before .before .before .before .before .before .feed-on in let took = c .before .before .before .before .take in
-    (omega (arith, took-within (omega (arith, s .held, fed-within (fed .ensures) .0)) (took .ensures) .whole, took .kept .1 .1 .0), s .room .numbered)
+ask-requires c κs =
+    let s = c .before .before .before .before .before .before .before .before .before .before .before .before .before .loop .inv .0 in
+    let took = c .before .before .before .before .take in
+    (omega (arith, took-within (took .ensures) .whole, took .kept .1 .1 .0), s .room .numbered)
 
 enum-known-kind : tie.Need-enum-known-kind Inv-loop μ-loop
 enum-known-kind c = search needs
@@ -129,16 +137,22 @@ look-requires c κs = c .before .before .before .before .before .before .before 
 enum-told-12 : tie.Need-enum-told-12 Inv-loop μ-loop
 enum-told-12 c = search needs
 
-nothing-requires : tie.Need-nothing-requires Inv-loop μ-loop
-nothing-requires c κs = search needs
+rules-requires : tie.Need-rules-requires Inv-loop μ-loop
+rules-requires c κs = search needs
 
 enum-told-13 : tie.Need-enum-told-13 Inv-loop μ-loop
 enum-told-13 c = search needs
 
+nothing-requires : tie.Need-nothing-requires Inv-loop μ-loop
+nothing-requires c κs = search needs
+
+enum-told-14 : tie.Need-enum-told-14 Inv-loop μ-loop
+enum-told-14 c = search needs
+
 no-call-requires : tie.Need-no-call-requires Inv-loop μ-loop
 no-call-requires c κs = search needs
 
--- what the line gives, whichever call it is
+-- what the line does, whichever call it is
 given : (c : tie.At-match-came Inv-loop μ-loop)
     → Given (c .before .before .before .before .before .before .before .before .before .before .before .before .before .before .before .before .before .loop .played .book) (c .before .before .before .ask .result) (c .before .before .before .ask .last .1 .1 .0) (c .before .before .before .before .before .before .before .before .before .before .before .before .before .before .before .before .before .loop .words) (c .match .played) (c .match .words)
 given c =
@@ -173,8 +187,11 @@ given c =
                         | inr y ↦ elim y [
                           | inl x ↦ given-by _ _ _ (x .1 .given .1 ∙ ap (λ (m : Name). Call m (x .1 .given .0 .1 .0)) (x .4 .given .1)) (x .7) (x .6) (looking (x .1 .given .0 .1 .0) _ (x .5 .ensures)) valid (rw (x .5 .ensures .told) (numbers-tells 2 _ _ _ _ (omega arith))) (ap length (x .6))
                           | inr y ↦ elim y [
-                            | inl x ↦ given-by _ _ _ (x .1 .given .1) (x .4 ∙ ap (played b) (x .2 .ensures)) (x .3) passing valid (nothing-tells _) (ap length (x .3))
-                            | inr x ↦ given-by _ _ _ (x .1 .given .1) (x .4 ∙ ap (played b) (x .2 .ensures)) (x .3) objecting valid (no-call-tells _) (ap length (x .3))
+                            | inl x ↦ given-by _ _ _ (x .1 .given .1 ∙ ap (λ (m : Name). Call m (x .1 .given .0 .1 .0)) (x .4 .given .1)) (x .7 ∙ ap (played b) (x .5 .ensures)) (x .6) (ruling (x .1 .given .0 .1 .0)) valid (numbers-tells 2 _ _ _ _ (omega arith)) (ap length (x .6))
+                            | inr y ↦ elim y [
+                              | inl x ↦ given-by _ _ _ (x .1 .given .1) (x .4 ∙ ap (played b) (x .2 .ensures)) (x .3) passing valid (nothing-tells _) (ap length (x .3))
+                              | inr x ↦ given-by _ _ _ (x .1 .given .1) (x .4 ∙ ap (played b) (x .2 .ensures)) (x .3) objecting valid (no-call-tells _) (ap length (x .3))
+                            ]
                           ]
                         ]
                       ]
@@ -189,22 +206,36 @@ given c =
     ]
 
 tell-requires : tie.Need-tell-requires Inv-loop μ-loop
-tell-requires c κs = let s = c .before .before .before .before .before .before .before .before .before .before .before .before .before .before .before .before .before .before .before .loop .inv .0 in
-    (given (c .before .before) .tells, omega (arith, s .within, fed-within (c .before .before .before .before .before .before .before .before .before .before .before .before .before .before .before .feed-on .ensures) .1), s .room .writable)
+tell-requires c κs =
+    let s = c .before .before .before .before .before .before .before .before .before .before .before .before .before .before .before .before .before .before .before .loop .inv .0 in
+    let fed = c .before .before .before .before .before .before .before .before .before .before .before .before .before .before .before .feed-on in
+    let on = fed-kept (fed .ensures) (s .read) in
+    let fit = fed-ready (fed .ensures) (s .room .writable) (s .ordered) in
+    (given (c .before .before) .tells, fit .room)
 
 turns-left-requires : tie.Need-turns-left-requires Inv-loop μ-loop
 turns-left-requires c κs = c .before .before .before .before .before .before .before .before .before .before .before .before .before .before .before .before .before .before .before .before .before .loop-test .taken
 
 loop-less : tie.Need-loop-less Inv-loop μ-loop
-loop-less c = fewer (c .before .before .before .before .before .before .before .before .before .before .before .before .before .before .take .result .over) _ _ (c .before .before .before .before .before .before .before .before .before .before .before .before .before .before .before .before .before .before .before .before .before .before .loop-test .taken) (c .turns-left .ensures)
+loop-less c = fewer (c .before .before .before .tell .result .course) _ _ (c .before .before .before .before .before .before .before .before .before .before .before .before .before .before .before .before .before .before .before .before .before .before .loop-test .taken) (c .turns-left .ensures)
 
 loop-again : tie.Need-loop-again Inv-loop μ-loop
-loop-again c = let i = c .before .before .before .before .before .before .before .before .before .before .before .before .before .before .before .before .before .before .before .before .before .before .before .loop .inv in let g = given (c .before .before .before .before .before .before) in
-    let fed = c .before .before .before .before .before .before .before .before .before .before .before .before .before .before .before .before .before .before .before .feed-on in let took = c .before .before .before .before .before .before .before .before .before .before .before .before .before .before .take in let asked = c .before .before .before .before .before .before .before .before .before .ask in let told = c .before .before .before .tell in
-    let part = fed .kept .1 .0 in let line = took .kept .1 .1 .0 in let numbers = asked .kept .1 .1 .0 in
-    let out = told .kept .1 .1 .1 .1 .0 in (
+loop-again c =
+    let i = c .before .before .before .before .before .before .before .before .before .before .before .before .before .before .before .before .before .before .before .before .before .before .before .loop .inv in
+    let s = i .0 in
+    let g = given (c .before .before .before .before .before .before) in
+    let fed = c .before .before .before .before .before .before .before .before .before .before .before .before .before .before .before .before .before .before .before .feed-on in
+    let took = c .before .before .before .before .before .before .before .before .before .before .before .before .before .before .take in
+    let asked = c .before .before .before .before .before .before .before .before .before .ask in
+    let told = c .before .before .before .tell in
+    let part = fed .kept .1 .0 in
+    let line = took .kept .1 .1 .0 in
+    let numbers = asked .kept .1 .1 .0 in
+    let out = told .kept .1 .1 .1 .1 .0 in
+    let on = fed-kept (fed .ensures) (s .read) in
+    let fit = fed-ready (fed .ensures) (s .room .writable) (s .ordered) in (
       rw (c .turns-left .ensures)
-          (turned (c .before .before .before .before .before .before .match .played .answer) (c .before .before .before .before .before .before .before .before .before .before .before .before .before .before .before .before .before .before .before .before .before .before .loop-test .taken) (i .0) (fed .ensures) (took .ensures) (asked .ensures .0) (asked .ensures .1 .0) g (told .ensures) part line numbers out),
+          (turned (c .before .before .before .before .before .before .match .played .answer) (c .before .before .before .before .before .before .before .before .before .before .before .before .before .before .before .before .before .before .before .before .before .before .loop-test .taken) s (fed .ensures) on fit (took .ensures) (asked .ensures .0) (asked .ensures .1 .0) g (told .ensures) line numbers out),
       part ∙ i .1,
       line ∙ i .2,
       numbers ∙ i .3,
@@ -212,30 +243,37 @@ loop-again c = let i = c .before .before .before .before .before .before .before
       out ∙ i .5,
     )
 
-write-out-requires : tie.Need-write-out-requires Inv-loop μ-loop
-write-out-requires c κs = c .before .before .loop .inv .0 .within
+tell-last-requires : tie.Need-tell-last-requires Inv-loop μ-loop
+tell-last-requires c κs = let s = c .before .before .before .loop .inv .0 in (s .held, s .within, s .room .writable)
 
 same-length : tie.Need-same-length Inv-loop μ-loop
-same-length c = c .before .before .before .loop .inv .1
+same-length c = c .before .before .before .before .before .before .loop .inv .1
 
 same-length-2 : tie.Need-same-length-2 Inv-loop μ-loop
-same-length-2 c = c .before .before .before .loop .inv .2
+same-length-2 c = c .before .before .before .before .before .before .loop .inv .2
 
 same-length-3 : tie.Need-same-length-3 Inv-loop μ-loop
-same-length-3 c = c .before .before .before .loop .inv .3
+same-length-3 c = c .before .before .before .before .before .before .loop .inv .3
 
 same-length-4 : tie.Need-same-length-4 Inv-loop μ-loop
-same-length-4 c = c .before .before .before .loop .inv .4
+same-length-4 c = c .before .before .before .before .before .before .loop .inv .4
 
 same-length-5 : tie.Need-same-length-5 Inv-loop μ-loop
-same-length-5 c = c .before .before .before .loop .inv .5
+same-length-5 c = c .before .before .tell-last .kept .1 .1 .0 ∙ c .before .before .before .before .before .before .loop .inv .5
 
 returns : tie.Need-returns Inv-loop μ-loop
-returns c = record {
-  book = c .before .before .before .loop .played .book;
-  flow = c .before .before .before .loop .flow;
-  plays = stopped (omega (arith, c .before .before .loop-test .left)) (c .before .before .before .loop .inv .0);
-}
+returns c =
+    let l = c .before .before .before .before .before .before .loop in
+    let last = c .before .before .tell-last .ensures in (
+      last .0,
+      record {
+        book = l .played .book;
+        flow = l .flow;
+        answers = l .out;
+        plays = stopped (omega (arith, c .before .before .before .before .before .loop-test .left)) (l .inv .0);
+        last = last .1;
+      },
+    )
 
 pub settle-all-spec : {M : Type 1} → statement M
 settle-all-spec =
@@ -273,14 +311,16 @@ settle-all-spec =
     enum-told-11
     look-requires
     enum-told-12
-    nothing-requires
+    rules-requires
     enum-told-13
+    nothing-requires
+    enum-told-14
     no-call-requires
     tell-requires
     turns-left-requires
     loop-less
     loop-again
-    write-out-requires
+    tell-last-requires
     same-length
     same-length-2
     same-length-3

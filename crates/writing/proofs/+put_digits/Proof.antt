@@ -1,5 +1,5 @@
--- `put_digits` meets its contract: the digits of a number's tenth part are written, by a call of itself, and then the
--- last. The measure is the number.
+-- `put_digits` meets its contract: it calls itself for the digits of the number's tenth part, and then writes the last
+-- digit. The measure is the number.
 use Prim.Native.Nat.{ℕ, _<_}
 use native.Mathlib.Omega.{arith}
 use mathlib.Core.Path.{ap}

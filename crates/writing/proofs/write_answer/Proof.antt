@@ -1,4 +1,4 @@
--- `write_answer` meets its contract: the numbers, and then a byte, for which they leave room.
+-- `write_answer` meets its contract: it writes the numbers, and then a byte, for which they leave room.
 use native.Mathlib.Omega.{arith}
 use borrow.Author.Needs.{needs}
 use Rattle.writing.specs.Answers.{answerOf}

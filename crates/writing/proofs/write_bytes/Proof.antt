@@ -1,5 +1,5 @@
--- `write_bytes` meets its contract. The loop's invariant: the bytes passed stand at the place. The measure is how
--- many bytes are left.
+-- `write_bytes` meets its contract. The loop's invariant: the bytes so far stand at the place. The measure is how many
+-- bytes are left.
 use Prim.Native.Nat.{_+_, _-_, _≤_}
 use native.Mathlib.Omega.{arith}
 use lib.ListN.{length, take}

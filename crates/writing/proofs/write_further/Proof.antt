@@ -1,4 +1,4 @@
--- `write_further` meets its contract. The loop's invariant: the numbers passed stand at the place. The measure is how
+-- `write_further` meets its contract. The loop's invariant: the numbers so far stand at the place. The measure is how
 -- many numbers are left.
 use Prim.Native.Nat.{_-_, _≤_}
 use native.Mathlib.Omega.{arith}

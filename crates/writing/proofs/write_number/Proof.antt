@@ -1,4 +1,4 @@
--- `write_number` meets its contract: 20 bytes are room for every number.
+-- `write_number` meets its contract: 20 bytes are enough room for every number.
 use native.Mathlib.Omega.{arith}
 use borrow.Author.Needs.{needs}
 use Rattle.writing.proofs.Digits.{digits-most}

@@ -1,4 +1,4 @@
--- `write_numbers` meets its contract: the first number, and then the others with a space in front of each.
+-- `write_numbers` meets its contract: it writes the first number, and then the others with a space in front of each.
 use borrow.Author.Needs.{needs}
 use Rattle.writing.proofs.Writing.{numbers-none, numbers-all, numbers-room}
 use Rattle.writing.proofs.write_numbers.Statement.{statement}

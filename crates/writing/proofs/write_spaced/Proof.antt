@@ -1,4 +1,4 @@
--- `write_spaced` meets its contract: a byte and then the digits.
+-- `write_spaced` meets its contract: it writes a byte and then the digits.
 use native.Mathlib.Omega.{arith}
 use mathlib.Core.Path.{_∙_}
 use lib.ListN.{length-set}

@@ -18,7 +18,7 @@ array-read-write-number c = search needs
 write-number-requires : tie.Need-write-number-requires
 write-number-requires c κs = search needs
 
--- behind the number there is room for a space, the cents and a line feed
+-- after the number there is room for a space, the cents and a line feed
 number-room : (c : tie.After-slice-known2)
     → c .before .before .write-number .result + 23 ≤ length (c .before .before .write-number .last .0)
 number-room c =
@@ -26,13 +26,13 @@ number-room c =
     let digits = c .before .before .write-number .ensures in
     omega (arith, known .pre, digits .place, wrote-length digits, digits-most (getD (known .args .self .numbers) 0 0))
 
--- the machine reads the cents from their bits
+-- reading the cents from their 64 bits gives the same cents
 cents-same : (c : tie.After-slice-known3)
     → toZ w64 (ofZ w64 (c .before .before .before .before .before .before .before .before .before .before .before .args .self .cents))
     ≡ c .before .before .before .before .before .before .before .before .before .before .before .args .self .cents
 cents-same c = search needs
 
--- there are as many bytes as before
+-- the output has as many bytes as before
 cents-length : (c : tie.After-slice-known3)
     → length (c .before .before .write-signed .last .0)
     ≡ length (c .before .before .before .before .before .before .before .before .before .before .before .args .out .now)
@@ -40,7 +40,7 @@ cents-length c =
     simp length-set at (wrote-length (c .before .before .write-signed .ensures))
     ∙ wrote-length (c .before .before .before .before .before .before .before .write-number .ensures)
 
--- behind the cents there is room for a line feed
+-- after the cents there is room for a line feed
 cents-room : (c : tie.After-slice-known3)
     → c .before .before .write-signed .result < length (c .before .before .write-signed .last .0)
 cents-room c =

@@ -12,7 +12,7 @@ use Rattle.answers.proofs.Answer.tell_closed.Tie as tie
 tell-numbers-requires : tie.Need-tell-numbers-requires
 tell-numbers-requires c κs = search needs
 
--- behind the numbers there is room for the lines and how many words are kept
+-- after the numbers there is room for the lines, and for the line that says how many words are kept
 head-room : (c : tie.After-slice-known2)
     → c .before .before .tell-numbers .result + 129 * c .before .before .before .before .before .before .args .self .lines + 28
     ≤ length (c .before .before .tell-numbers .last .1 .0)

@@ -17,7 +17,7 @@ array-read-write-number c = search needs
 write-number-requires : tie.Need-write-number-requires
 write-number-requires c κs = search needs
 
--- behind the number there is room for the places and a line feed
+-- after the number there is room for the places and a line feed
 number-room : (c : tie.After-slice-known2)
     → c .before .before .write-number .result + 21 * c .before .before .before .before .before .before .before .args .self .lent
     < length (c .before .before .write-number .last .0)
@@ -28,7 +28,7 @@ number-room c =
     let most = digits-most (getD (known .args .self .numbers) 0 0) in
     omega (arith, known .pre .1, digits .place, wrote-length digits)
 
--- behind the places there is room for a line feed
+-- after the places there is room for a line feed
 places-room : (c : tie.After-slice-known3)
     → c .before .before .write-further .result < length (c .before .before .write-further .last .0)
 places-room c =

@@ -16,7 +16,7 @@ nothing-requires : tie.Need-nothing-requires
 nothing-requires c κs = search needs
 
 returns : tie.Need-returns
-returns c = (ap₂ played (ap (λ (o : Opened). o .book) (c .before .before .«open» .ensures .0)) (c .nothing .ensures), c .before .before .«open» .ensures .1)
+returns c = (ap₂ played (ap (λ (o : Opened). o .book) (c .before .before .«open» .ensures .0)) (c .nothing .ensures), c .before .before .«open» .ensures .1 .0)
 
 pub before-all-spec : {M : Type 1} → statement M
 before-all-spec = tie.close (tie.spec slice-aggregate-open open-requires nothing-requires returns)

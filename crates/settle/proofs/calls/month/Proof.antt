@@ -47,7 +47,7 @@ returns c = let s = c .before .before .before .before .before .before .before .b
           ∙ ap (afterMonth a) (done .ensures .0 ∙ ap (month (s .args .book) given) (filled-length (a .lent) (a .fill) (s .args .words .now) _ f)),
       (
         ap₂ _++_ (done .ensures .1 .0 ∙ ap (monthWords (s .args .book) given) front) (filled-rest (a .lent) (a .fill) (s .args .words .now) _ f),
-        done .ensures .1 .1,
+        done .ensures .1 .1 .0,
       ),
     )
 

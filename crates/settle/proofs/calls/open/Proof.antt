@@ -25,7 +25,7 @@ numbers-requires : tie.Need-numbers-requires
 numbers-requires c κs = search needs
 
 returns : tie.Need-returns
-returns c = (ap (λ (x : Answer). played (c .before .before .«open» .result .book) x) (c .numbers .ensures) ∙ ap afterOpen (c .before .before .«open» .ensures .0), c .before .before .«open» .ensures .1)
+returns c = (ap (λ (x : Answer). played (c .before .before .«open» .result .book) x) (c .numbers .ensures) ∙ ap afterOpen (c .before .before .«open» .ensures .0), c .before .before .«open» .ensures .1 .0)
 
 pub open-spec : {M : Type 1} → statement M
 open-spec =

@@ -1,12 +1,8 @@
 -- `feed_on` meets its contract.
-use mathlib.Core.Path.{refl, sym, ap, ap₂, _∙_}
-use Prim.Native.Nat.{ℕ}
-use native.Mathlib.Omega.{arith}
+use mathlib.Core.Path.{refl, sym, _∙_}
+use borrow.Author.Tests.{le-leb, lt-leb}
+use Rattle.settle.specs.Flow.FedOn.{ready, cleared, uncleared, fed, unfed}
 use borrow.Author.Needs.{needs}
-use Rattle.settle.proofs.Flows.{flowAt, filled-to, fed-anew, fed-still}
-use Rattle.settle.specs.Flow.{fedWith}
-use Rattle.lines.specs.declared.Feed.{Feed}
-use Rattle.basics.proofs.Cases.{never}
 use Rattle.settle.proofs.flow.feed_on.Statement.{statement}
 use Rattle.settle.proofs.flow.feed_on.Tie as tie
 
@@ -19,27 +15,40 @@ write-out-requires c κs = search needs
 read-on-requires : tie.Need-read-on-requires
 read-on-requires c κs = search needs
 
-filled-requires : tie.Need-filled-requires
-filled-requires c κs = search needs
-
 same-length : tie.Need-same-length
 same-length c = search needs
 
 returns : tie.Need-returns
-returns c = let to = ap (λ (f : Feed). f .to) (c .filled .ensures) ∙ filled-to _ _ in
-    let used = sym (c .before .before .before .before .before .before .before .is-used-up .ensures) ∙ c .before .before .before .before .before .before .if1 .taken in
-    record {
-      fed = ap₂ flowAt (c .filled .ensures) (c .before .before .before .before .before .write-out .ensures) ∙ fed-anew (c .before .before .before .before .before .before .before .before .before .before .before .args .flow) _ used ∙ ap (λ (n : ℕ). fedWith n (c .before .before .before .before .before .before .before .before .before .before .before .args .flow)) (sym to);
-      within = omega (arith, to, c .before .before .before .read-on .ensures);
-      kept = λ e. absurd (never (sym e ∙ used));
-    }
+returns c =
+    fed (sym (c .before .before .before .before .before .before .before .is-used-up .ensures) ∙ c .before .before .before .before .before .before .if1 .taken) (c .before .before .read-on .kept .1 .0) (c .before .before .read-on .ensures)
+
+failed-requires : tie.Need-failed-requires
+failed-requires c κs = search needs
 
 returns-2 : tie.Need-returns-2
-returns-2 c = record {
-  fed = fed-still _ (sym (c .before .is-used-up .ensures) ∙ c .if1 .left);
-  within = c .before .before .before .before .before .pre .0;
-  kept = λ e. refl;
-}
+returns-2 c =
+    rw (c .failed .ensures) (unfed (sym (c .before .before .before .before .is-used-up .ensures) ∙ c .before .before .before .if1 .taken) refl)
+
+sub-if3 : tie.Need-sub-if3
+sub-if3 c = search needs
+
+returns-3 : tie.Need-returns-3
+returns-3 c =
+    ready (sym (c .before .before .before .is-used-up .ensures) ∙ c .before .before .if1 .left) (le-leb _ _ (c .if3 .taken)) refl
+
+write-out-requires-2 : tie.Need-write-out-requires-2
+write-out-requires-2 c κs = search needs
+
+returns-4 : tie.Need-returns-4
+returns-4 c =
+    cleared (sym (c .before .before .before .before .before .is-used-up .ensures) ∙ c .before .before .before .before .if1 .left) (lt-leb _ _ (c .before .before .if3 .left)) refl
+
+failed-requires-2 : tie.Need-failed-requires-2
+failed-requires-2 c κs = search needs
+
+returns-5 : tie.Need-returns-5
+returns-5 c =
+    rw (c .failed2 .ensures) (uncleared (sym (c .before .before .before .before .before .before .is-used-up .ensures) ∙ c .before .before .before .before .before .if1 .left) (lt-leb _ _ (c .before .before .before .if3 .left)) refl)
 
 pub feed-on-spec : {M : Type 1} → statement M
 feed-on-spec =
@@ -48,7 +57,13 @@ feed-on-spec =
     is-used-up-requires
     write-out-requires
     read-on-requires
-    filled-requires
     same-length
     returns
-    returns-2)
+    failed-requires
+    returns-2
+    sub-if3
+    returns-3
+    write-out-requires-2
+    returns-4
+    failed-requires-2
+    returns-5)

@@ -1,24 +1,28 @@
 -- `write_out` meets its contract.
-use lib.Seq.{length-take-le}
 use mathlib.Core.Path.{sym}
+use lib.Seq.{length-take-le}
 use borrow.Author.Needs.{needs}
 use Rattle.settle.proofs.flow.write_out.Statement.{statement}
 use Rattle.settle.proofs.flow.write_out.Tie as tie
 
 slice-aggregate-write-all : tie.Need-slice-aggregate-write-all
-slice-aggregate-write-all c = sym (length-take-le _ _ (c .before .before .pre))
+slice-aggregate-write-all c =
+    sym (length-take-le _ _ (c .before .before .pre))
 
 write-all-requires : tie.Need-write-all-requires
 write-all-requires c κs = search needs
 
-slice-aggregate-report : tie.Need-slice-aggregate-report
-slice-aggregate-report c = search needs
-
-report-requires : tie.Need-report-requires
-report-requires c κs = search needs
-
 returns : tie.Need-returns
 returns c = search needs
+
+slice-aggregate-fail : tie.Need-slice-aggregate-fail
+slice-aggregate-fail c = search needs
+
+fail-requires : tie.Need-fail-requires
+fail-requires c κs = search needs
+
+returns-2 : tie.Need-returns-2
+returns-2 c = search needs
 
 pub write-out-spec : {M : Type 1} → statement M
 write-out-spec =
@@ -26,6 +30,7 @@ write-out-spec =
     (tie.spec
     slice-aggregate-write-all
     write-all-requires
-    slice-aggregate-report
-    report-requires
-    returns)
+    returns
+    slice-aggregate-fail
+    fail-requires
+    returns-2)
