@@ -6,6 +6,6 @@ use lib.Dec.{eqb}
 use borrow.Author.Tests.{eq-eqb}
 use Rattle.basics.specs.Choice.{pick}
 
--- it counts for nothing
+-- such an answer adds 0 to the number of answers that differ
 pub none-differs : {answer settled r : ℕ} → answer ≡ settled → r ≡ pick (eqb answer settled) 0 1 → r ≡ 0
 none-differs {answer} {settled} e h = h ∙ ap (λ (t : Bool). pick t 0 1) (eq-eqb answer settled e)

@@ -1,39 +1,48 @@
--- The settled examples of 01 hold of the definitions.
+-- The settled examples of docs/RULES.md hold of the definitions.
 use Prim.Native.Nat.{ℕ, _-_, _≤_}
 use native.Mathlib.Omega.{arith}
-use mathlib.Core.Path.{_≡_, refl}
+use mathlib.Core.Path.{_≡_, refl, ap, ap₂, _∙_}
 use mathlib.Core.Bool.{true}
+use lib.ListN.{getD, replicate}
 use mathlib.Core.List.{List, [], _∷_, _++_}
 use Rattle.basics.specs.Lists.{total, tableFrom, countBelow, Every}
 use Rattle.basics.specs.Lists.Every.{nobody, also}
 use Rattle.calendar.specs.declared.Day.{Day}
 use Rattle.calendar.specs.declared.NextDay.the-variants.{At}
-use Rattle.calendar.specs.Closed.{day, lastDay, closedDays, listed, among}
+use Rattle.calendar.specs.Closed.{day, lastDay, risesFrom, closedRefused, closedDays, listed, among}
 use Rattle.calendar.specs.Days.{clearingDays, clearing, clearingWithin, nextWithin, nextAfter, nthAfter, ageAt}
 use Rattle.calendar.proofs.Ages.{age-nth}
 use Rattle.amounts.specs.Quotients.{rounded}
 use Rattle.amounts.specs.Amounts.{value, penalty, compensation, dueFor, cash, cashOfEach, charge, tolerance, amountsMatch, aboveCap}
+use Rattle.netting.specs.Accounts.{debited, credited, transferred}
 use Rattle.netting.specs.Shares.{floorShare, remainder, centsLeft, comesBefore, rank, extraCent, share, shares}
 use Rattle.offers.specs.Rank.{overtakes, insertedBy, rankedBy}
 use Rattle.offers.specs.BuyIn.{offersFor, withGiven, givenBy, given}
 use Rattle.instructions.specs.Match.{fits, firstFit, lowestFit}
-use Rattle.ledger.specs.Obligations.{cashOf, isDue, buyingIn, compensating}
+use Rattle.ledger.specs.Obligations.{withGracePrice, cashOf, isDue, buyingIn, compensating}
 use Rattle.ledger.specs.Obligations.{settled as settledSoFar}
 use Rattle.ledger.specs.Obligations.{delivering as deliveringFrom}
-use Rattle.ledger.specs.Ledger.{fetched}
+use Rattle.ledger.specs.Ledger.{obligationAt, withObligation, fetched}
 use Rattle.refusals.specs.Refusals.{answer}
 use Rattle.book.specs.Book.{ageOf}
+use Rattle.book.specs.Open.{openRefusals, opened}
 use Rattle.book.specs.Instructing.{obligationOf, enteredAlone, enteredWith, enter, deliverRefusals, deliver}
-use Rattle.refusals.specs.Calls.{enterRefusals, deliverRefusalsOf}
+use Rattle.refusals.specs.Calls.{fetchOutcome, enterRefusals, deliverRefusalsOf}
 use Rattle.book.specs.Buying.{offerRefusals, offer}
 use Rattle.refusals.specs.Calls.{offerRefusalsIn, offerRefusalsOf, closeRefusalsIn, closeRefusals}
-use Rattle.book.specs.Closing.{close}
-use Rattle.closing.specs.Lines.{flat, then}
+use Rattle.book.specs.Closing.{closeBy, close, closeWords}
+use Rattle.book.specs.Month.{month}
+use Rattle.closing.specs.Lines.{flat, written, then}
 use Rattle.closing.specs.Stages.{priced, penalised, noticeAt, boughtAll, buyInAt, compensated, compensatedAt}
 use Rattle.closing.specs.Stages.{boughtFrom as boughtOffer}
-use Rattle.closing.specs.Close.{stages, closedOne, rowsUpTo, linesUpTo, fined}
+use Rattle.closing.specs.Close.{stages, closedOne, rowsUpTo, linesUpTo, fined, accountsUpTo}
 use Rattle.payments.specs.Month.{overCollected, monthRefusals, paidOut}
-use Rattle.examples.specs.Table.{table, boughtFrom, nthDay, dayNumber}
+use Rattle.book.specs.declared.Book.{Book}
+use Rattle.journal.specs.Calls.{Call}
+use Rattle.journal.specs.Effects.{linesRead}
+use Rattle.journal.specs.Played.{begun}
+use Rattle.examples.specs.Played.{opening, bookAfter, eventsOn, numbersOf, accepted, answersOf, shown, sale, closeAt, daysPass, toBuyIn, compensationPlayed, capOffers, capPlayed, matchPlayed, deliversPlayed, auctionOffers, auctionPlayed}
+use Rattle.examples.specs.Table.{table, boughtFrom, nthDay, dayNumber, oneOfThree, threeCash, compensatedFor, boughtInTwo}
 
 -- the n-th clearing day is found by counting the clearing days up to it
 nth : (cs : List Day) (j e n : ℕ) → j ≤ e → e ≤ lastDay → clearing cs (day e) ≡ true → clearingWithin cs j (e - j) ≡ n →
@@ -56,8 +65,123 @@ thirtieth-after-closed = nth (day 44 ∷ []) 2 45 30 (omega arith) (omega arith)
 example-9 : nthDay [] 2 30 ++ nthDay [] 2 35 ++ nthDay (day 44 ∷ []) 2 30 ≡ 44 ∷ 51 ∷ 45 ∷ []
 example-9 = λ i. dayNumber (thirtieth i) ++ dayNumber (thirty-fifth i) ++ dayNumber (thirtieth-after-closed i)
 
--- in every row, what the definitions give is what 01 says
+-- the rules that the rows are worked out by; a proof that unfolds this name unfolds them all
+unfoldable rules : ℕ
+unfolding total tableFrom countBelow rounded value penalty compensation dueFor cash cashOfEach charge tolerance amountsMatch aboveCap floorShare remainder centsLeft comesBefore rank extraCent share shares overtakes insertedBy rankedBy offersFor withGiven givenBy given boughtFrom among clearing clearingWithin ageAt closedDays listed closedRefused risesFrom answer opened openRefusals ageOf enterRefusals obligationOf enteredAlone enteredWith enter deliverRefusals deliverRefusalsOf deliver fetchOutcome offerRefusals offerRefusalsIn offerRefusalsOf offer fits firstFit lowestFit settledSoFar cashOf deliveringFrom close closeBy closeWords closeRefusals closeRefusalsIn nextAfter nextWithin flat then written stages closedOne rowsUpTo linesUpTo fined accountsUpTo priced penalised noticeAt boughtOffer boughtAll buyInAt compensated compensatedAt isDue buyingIn compensating paidOut month monthRefusals overCollected fetched linesRead debited credited transferred
+rules = 0
+
+-- ---- journals of many days
+-- the Open of the journals is accepted
+pub opening-accepted : opened (opening .first) (opening .closed) (opening .terms) .answer ≡ 0
+unfolding rules
+opening-accepted = refl
+
+-- the book once a sale of q units for a cents is entered
+abbrev sold : ℕ → ℕ → Book
+sold q a = bookAfter (begun opening .book) (sale 0 1 q a)
+
+-- the book of one obligation on a later day: today is that day, and this is the price of the Close at age = grace
+abbrev onDay : ℕ → ℕ → Book → Book
+onDay today gracePrice b = record {
+  closed = b .closed;
+  terms = b .terms;
+  today = day today;
+  «close_since» = true;
+  legs = b .legs;
+  ledger = withObligation 0 (withGracePrice gracePrice (obligationAt (b .ledger) 0)) (b .ledger);
+}
+
+-- what a journal shows that goes on from a book: the numbers so far, those of the calls that lead on, and the answers
+abbrev goesOn : List Call → List Call → List ℕ → Book → List ℕ
+goesOn lead calls numbers b = numbers ++ numbersOf (eventsOn b lead) ++ answersOf (eventsOn (bookAfter b lead) calls)
+
+-- ten days after day 2 are accepted and lead to day 16, on which the age is grace
+ten-accepted : numbersOf (eventsOn (begun opening .book) (sale 0 1 10 1000000 ++ daysPass 10)) ≡ accepted 12
+unfolding rules
+ten-accepted = refl
+
+ten-later : bookAfter (sold 10 1000000) (daysPass 10) ≡ onDay 16 0 (sold 10 1000000)
+unfolding rules
+ten-later = refl
+
+ten-days : (lead calls : List Call) → shown answersOf (sale 0 1 10 1000000 ++ daysPass 10 ++ lead) calls
+    ≡ goesOn lead calls (accepted 12) (onDay 16 0 (sold 10 1000000))
+ten-days lead calls = ap₂ (goesOn lead calls) ten-accepted ten-later
+
+-- thirteen days after day 2 are accepted and lead to day 19, on which the age is last
+thirteen-accepted : numbersOf (eventsOn (begun opening .book) (sale 0 1 1 1000 ++ daysPass 13)) ≡ accepted 15
+unfolding rules
+thirteen-accepted = refl
+
+thirteen-later : bookAfter (sold 1 1000) (daysPass 13) ≡ onDay 19 100000 (sold 1 1000)
+unfolding rules
+thirteen-later = refl
+
+thirteen-days : (calls : List Call) → shown answersOf (sale 0 1 1 1000 ++ daysPass 13) calls
+    ≡ goesOn [] calls (accepted 15) (onDay 19 100000 (sold 1 1000))
+thirteen-days calls = ap₂ (goesOn [] calls) thirteen-accepted thirteen-later
+
+-- X3, Settled examples: the Close on that day
+last-day : (goesOn [] (closeAt 100005 0 ∷ []) (accepted 15) (onDay 19 100000 (sold 1 1000)) ≡ accepted 15 ++ compensatedFor 10001)
+    × (goesOn [] (closeAt 100004 0 ∷ []) (accepted 15) (onDay 19 100000 (sold 1 1000)) ≡ accepted 15 ++ compensatedFor 10000)
+unfolding rules
+last-day = (refl, refl)
+
+example-3 : (compensationPlayed 100005 ≡ accepted 15 ++ compensatedFor 10001)
+    × (compensationPlayed 100004 ≡ accepted 15 ++ compensatedFor 10000)
+example-3 = (thirteen-days (closeAt 100005 0 ∷ []) ∙ last-day .0, thirteen-days (closeAt 100004 0 ∷ []) ∙ last-day .1)
+
+-- X4, Settled examples: the Close at age = grace, and the offers of the next day
+capped : goesOn (closeAt 99999 0 ∷ []) capOffers (accepted 12) (onDay 16 0 (sold 10 1000000)) ≡ accepted 13 ++ 0 ∷ 18 ∷ []
+unfolding rules
+capped = refl
+
+pub example-4 : capPlayed ≡ accepted 13 ++ 0 ∷ 18 ∷ []
+example-4 = ten-days (closeAt 99999 0 ∷ []) capOffers ∙ capped
+
+-- X10, Settled examples: the same with the three offers and their Close
+bought : goesOn (closeAt 100000 0 ∷ []) (auctionOffers ++ closeAt 100000 0 ∷ []) (accepted 12) (onDay 16 0 (sold 10 1000000))
+    ≡ accepted 16 ++ boughtInTwo
+unfolding rules
+bought = refl
+
+pub example-10 : auctionPlayed ≡ accepted 16 ++ boughtInTwo
+example-10 = ten-days (closeAt 100000 0 ∷ []) (auctionOffers ++ closeAt 100000 0 ∷ []) ∙ bought
+
+-- ---- journals of one day
+-- X5 and X6, Settled examples
+pub example-5 : matchPlayed 10000000 10000201 10000200 ≡ accepted 1 ++ oneOfThree
+unfolding rules
+example-5 = refl
+
+pub example-6 : matchPlayed 10000001 10002502 10002501 ≡ accepted 1 ++ oneOfThree
+unfolding rules
+example-6 = refl
+
+-- X7, Settled examples
+pub example-7 : deliversPlayed ≡ accepted 2 ++ threeCash
+unfolding rules
+example-7 = refl
+
+-- X10, Settled examples: supplier, quantity and cents in the words of two lines of a Close, the second and the third
+abbrev pub twoBought : List ℕ → List ℕ
+twoBought words = getD words 10 0 ∷ getD words 8 0 ∷ getD words 9 0 ∷ getD words 16 0 ∷ getD words 14 0 ∷ getD words 15 0 ∷ []
+
+words-there : twoBought (closeWords (bookAfter (onDay 16 0 (sold 10 1000000)) (closeAt 100000 0 ∷ auctionOffers)) 100000 0 (replicate 1152 0))
+    ≡ 2 ∷ 5 ∷ 2500 ∷ 1 ∷ 5 ∷ 5000 ∷ []
+unfolding rules
+words-there = refl
+
+-- X10, Settled examples: what the list of the Close holds as it ends
+pub example-10-words : twoBought (closeWords (bookAfter (begun opening .book) (toBuyIn 100000 ++ auctionOffers)) 100000 0 (replicate 1152 0))
+    ≡ 2 ∷ 5 ∷ 2500 ∷ 1 ∷ 5 ∷ 5000 ∷ []
+example-10-words =
+    ap (λ (b : Book). twoBought (closeWords (bookAfter b (closeAt 100000 0 ∷ auctionOffers)) 100000 0 (replicate 1152 0))) ten-later
+    ∙ words-there
+
+-- ---- the table
+-- in every row, what the definitions give is what is settled
 pub settled : Every (λ r. r .computed ≡ r .settled) table
-unfolding total tableFrom countBelow rounded value penalty compensation dueFor cash cashOfEach charge tolerance amountsMatch aboveCap floorShare remainder centsLeft comesBefore rank extraCent share shares overtakes insertedBy rankedBy offersFor withGiven givenBy given boughtFrom among clearing clearingWithin ageAt closedDays listed answer ageOf enterRefusals obligationOf enteredAlone enteredWith enter deliverRefusals deliverRefusalsOf deliver offerRefusals offerRefusalsIn offerRefusalsOf offer fits firstFit lowestFit settledSoFar cashOf deliveringFrom close closeRefusals closeRefusalsIn nextAfter nextWithin flat then stages closedOne rowsUpTo linesUpTo fined priced penalised noticeAt boughtOffer boughtAll buyInAt compensated compensatedAt isDue buyingIn compensating paidOut monthRefusals overCollected fetched
+unfolding rules
 settled =
-    also refl (also refl (also refl (also refl (also refl (also refl (also refl (also refl (also refl (also refl (also refl (also refl (also refl (also example-9 (also refl (also refl (also refl (also refl (also refl (also refl (also refl (also refl (also refl nobody))))))))))))))))))))))
+    also refl (also refl (also refl (also refl (also refl (also refl (also refl (also refl (also refl (also example-9 (also refl (also refl (also refl (also refl (also (example-3 .0) (also (example-3 .1) (also example-4 (also example-5 (also example-6 (also example-7 (also refl (also refl (also example-10 nobody))))))))))))))))))))))

@@ -1,4 +1,4 @@
--- Accounts written out: a test that computes says that they can be netted.
+-- The accounts of the examples are written out, so a test that computes shows that they can be netted.
 use Prim.Native.Nat.{ℕ, zero, suc}
 use native.Mathlib.Omega.{arith}
 use mathlib.Core.Path.{_≡_, refl}

@@ -1,34 +1,23 @@
--- The settled examples of 01, each as a row: its number there, what the definitions give, and what 01 says.
-use Prim.Native.Nat.{ℕ, _+_, _-_}
-use mathlib.Core.Bool.{Bool, true, false}
+-- The settled examples of docs/RULES.md, each as rows: its number there, what the definitions give, and what is settled.
+use Prim.Native.Nat.{ℕ, _+_}
+use mathlib.Core.Bool.{Bool}
 use mathlib.Core.List.{List, [], _∷_, _++_}
-use lib.IntN.{ℤ, pos, negsuc}
 use lib.ListN.{take, replicate}
 use Rattle.basics.specs.Choice.{pick}
 use Rattle.calendar.specs.declared.Day.{Day}
 use Rattle.calendar.specs.declared.NextDay.{NextDay}
 use Rattle.calendar.specs.declared.NextDay.the-variants.{At, Never}
-use Rattle.calendar.specs.Closed.{day, closedDays}
+use Rattle.calendar.specs.Closed.{day}
 use Rattle.calendar.specs.Days.{clearingDays, nthAfter}
 use Rattle.amounts.specs.Amounts.{penalty, compensation, cash, cashOfEach, charge, amountsMatch, aboveCap}
 use Rattle.netting.specs.Shares.{shares}
 use Rattle.offers.specs.declared.Offer.{Offer}
 use Rattle.offers.specs.declared.Given.{Given}
 use Rattle.offers.specs.Rank.{ranked}
-use Rattle.offers.specs.Held.{noOffers}
 use Rattle.offers.specs.BuyIn.{given}
-use Rattle.instructions.specs.Legs.{noLegs, withLeg}
-use Rattle.ledger.specs.Ledger.{newLedger, withNew}
-use Rattle.book.specs.declared.Book.{Book}
-use Rattle.book.specs.Book.{withLegs, withLedger}
-use Rattle.book.specs.Open.{termsOf, freshBook}
-use Rattle.book.specs.Instructing.{newLeg, enter, deliver}
-use Rattle.book.specs.Buying.{offer}
-use Rattle.book.specs.Closing.{linesOf, close}
-use Rattle.book.specs.Month.{monthWords}
-use Rattle.closing.specs.Lines.{flat}
+use Rattle.examples.specs.Played.{accepted, sale, penaltyPlayed, compensationPlayed, capPlayed, matchPlayed, deliversPlayed, monthPlayed, auctionPlayed}
 
--- a row of the table: the item, what the definitions give, and what the rules print
+-- a row of the table: the number of the example, what the definitions give, and what is settled
 pub record Row : Type 0 where
   pub item : ℕ
   pub computed : List ℕ
@@ -38,7 +27,7 @@ pub record Row : Type 0 where
 abbrev pub asNumber : Bool → ℕ
 asNumber t = pick t 1 0
 
--- 01, Refusals, 18, of an offer's price over the price at age = grace; 0 where it passes
+-- R18, Refusals: 18 for an offer whose price is above the cap over the price at age = grace, and 0 for one that passes
 abbrev pub capAnswer : ℕ → ℕ → ℕ
 capAnswer price gracePrice = pick (aboveCap price gracePrice) 18 0
 
@@ -71,77 +60,31 @@ boughtFrom a q s (g ∷ gs) =
     g .offer .supplier ∷ g .quantity ∷ charge (g .quantity) (g .offer .price) (cash a q s (s + g .quantity))
     ∷ boughtFrom a q (s + g .quantity) gs
 
--- example 10's offers, the last one entered first
+-- X10, Settled examples: its offers, the last one entered first
 abbrev pub entered : List Offer
 entered = offerOf 3 7 101000 ∷ offerOf 2 5 100500 ∷ offerOf 1 7 101000 ∷ []
 
--- a book on a day with one obligation between members 0 and 1, due on day 2, of which this much is delivered, and with
--- this price at age = grace
-abbrev pub bookOn : ℕ → ℕ → ℕ → ℕ → ℕ → Book
-bookOn today quantity amount delivered gracePrice =
-    withLedger (withNew (record {
-      seller = 0;
-      buyer = 1;
-      quantity = quantity;
-      amount = amount;
-      day = day 2;
-      parts = record {
-        delivered = delivered;
-        «bought_in» = 0;
-        compensated = 0;
-        cancelled = 0;
-        outstanding = quantity - delivered;
-      };
-      «seller_wish» = false;
-      «buyer_wish» = false;
-      «grace_price» = gracePrice;
-    }) newLedger) (freshBook (day today) (closedDays []) 0)
+-- E11, Enter: what the three legs of X5 and X6 answer: leg 1 without a match, a refusal by 3, and leg 2 in obligation 0
+abbrev pub oneOfThree : List ℕ
+oneOfThree = (0 ∷ 1 ∷ 0 ∷ []) ++ (3 ∷ 0 ∷ 0 ∷ []) ++ 0 ∷ 2 ∷ 1 ∷ []
 
--- the answer to an offer of 5 units on the 31st clearing day after day 2, which is 45
-abbrev pub offerAnswer : ℕ → ℕ → ℕ
-offerAnswer gracePrice price = offer (bookOn 45 10 1000000 0 gracePrice) 0 7 5 price .answer
+-- V2, Deliver: what the three Delivers of X7 answer
+abbrev pub threeCash : List ℕ
+threeCash = (0 ∷ 333 ∷ []) ++ (0 ∷ 333 ∷ []) ++ 0 ∷ 334 ∷ []
 
--- the obligation plus 1, or 0, of a receiving leg entered where a delivering leg waits
-abbrev pub entersWith : ℕ → ℕ → ℕ
-entersWith delivering receiving =
-    enter (withLegs (withLeg (newLeg 0 1 0 10 delivering (day 2)) noLegs) (freshBook (day 2) (closedDays []) 0)) 1 0 1 10 receiving (day 2) .obligation
+-- C11, Close: what the Close of X3 answers: it has two lines, a penalty of 0 cents and the compensation
+abbrev pub compensatedFor : ℕ → List ℕ
+compensatedFor cents = (0 ∷ 2 ∷ []) ++ (1 ∷ 0 ∷ 1 ∷ 0 ∷ 0 ∷ 0 ∷ []) ++ 4 ∷ 0 ∷ 1 ∷ cents ∷ 0 ∷ 0 ∷ []
 
--- the cash of a delivery of one unit once some are delivered
-abbrev pub cashAfter : ℕ → ℕ → ℕ → ℕ
-cashAfter quantity amount delivered = deliver (bookOn 2 quantity amount delivered 0) 0 1 .cash
+-- C11, Close: what the Close of X10 answers: it has three lines, a penalty of 0 cents and the two quantities bought in
+abbrev pub boughtInTwo : List ℕ
+boughtInTwo =
+    (0 ∷ 3 ∷ [])
+    ++ (1 ∷ 0 ∷ 10 ∷ 0 ∷ 0 ∷ 0 ∷ [])
+    ++ (3 ∷ 0 ∷ 5 ∷ 2500 ∷ 2 ∷ 100500 ∷ [])
+    ++ 3 ∷ 0 ∷ 5 ∷ 5000 ∷ 1 ∷ 101000 ∷ []
 
--- what a Close of a book with a list of 1,152 words answers: its number, how many lines, and their words
-abbrev pub closes : Book → ℕ → ℕ → List ℕ
-closes b price rate =
-    close b price rate 1152 .answer ∷ close b price rate 1152 .count ∷ flat (linesOf b price rate)
-
--- example 10's book on the 31st clearing day after day 2: all of 10 units open, and the offers entered in their order
-abbrev pub offeredBook : Book
-offeredBook =
-    let first = offer (bookOn 45 10 1000000 0 100000) 0 1 7 101000 .book in
-    offer (offer first 0 2 5 100500 .book) 0 3 7 101000 .book
-
--- a book with these accounts of the first four members, in which a Close came since the last Month
-abbrev pub bookWith : List ℤ → Book
-bookWith accounts = record {
-  closed = closedDays [];
-  terms = termsOf 0;
-  today = day 3;
-  «close_since» = true;
-  legs = noLegs;
-  ledger = record {
-    obligations = newLedger .obligations;
-    count = 0;
-    offers = noOffers;
-    accounts = accounts ++ replicate 28 (pos 0);
-  };
-}
-
--- what the first three members are paid in a Month in which the fourth member pays 100 cents
-abbrev pub paysOut : List ℤ → List ℕ
-paysOut accounts = take 3 (monthWords (bookWith accounts) (0 ∷ 0 ∷ 0 ∷ 100 ∷ replicate 28 0) (replicate 32 7))
-
--- 01, Settled examples
+-- X1 to X10, Settled examples: first by the definitions that each example speaks of, then as calls after an Open
 abbrev pub table : List Row
 table =
     record { item = 1; computed = penalty 1000 100000 10 ∷ []; settled = 1000 ∷ [] }
@@ -159,10 +102,6 @@ table =
       settled = 1 ∷ 0 ∷ [];
     }
     ∷ record { item = 7; computed = cashOfEach 1000 3 0 (1 ∷ 1 ∷ 1 ∷ []); settled = 333 ∷ 333 ∷ 334 ∷ [] }
-    ∷ record { item = 4; computed = offerAnswer 99999 107998 ∷ offerAnswer 99999 107999 ∷ []; settled = 0 ∷ 18 ∷ [] }
-    ∷ record { item = 5; computed = entersWith 10000000 10000200 ∷ entersWith 10000000 10000201 ∷ []; settled = 1 ∷ 0 ∷ [] }
-    ∷ record { item = 6; computed = entersWith 10000001 10002501 ∷ entersWith 10000001 10002502 ∷ []; settled = 1 ∷ 0 ∷ [] }
-    ∷ record { item = 7; computed = cashAfter 3 1000 0 ∷ cashAfter 3 1000 1 ∷ cashAfter 3 1000 2 ∷ []; settled = 333 ∷ 333 ∷ 334 ∷ [] }
     ∷ record { item = 8; computed = firstShares 100 200 100 0; settled = 67 ∷ 33 ∷ 0 ∷ [] }
     ∷ record { item = 8; computed = firstShares 100 100 100 100; settled = 34 ∷ 33 ∷ 33 ∷ [] }
     ∷ record {
@@ -175,24 +114,44 @@ table =
       computed = boughtFrom 1000000 10 0 (given 0 10 (ranked entered));
       settled = 2 ∷ 5 ∷ 2500 ∷ 1 ∷ 5 ∷ 5000 ∷ [];
     }
-    ∷ record { item = 1; computed = closes (bookOn 2 1000 1000000 0 0) 100000 10; settled = 0 ∷ 1 ∷ 1 ∷ 0 ∷ 1000 ∷ 1000 ∷ 0 ∷ 0 ∷ [] }
-    ∷ record { item = 2; computed = closes (bookOn 2 1 1000 0 0) 50000 10; settled = 0 ∷ 1 ∷ 1 ∷ 0 ∷ 1 ∷ 1 ∷ 0 ∷ 0 ∷ [] }
-    ∷ record { item = 2; computed = closes (bookOn 2 1 1000 0 0) 49999 10; settled = 0 ∷ 1 ∷ 1 ∷ 0 ∷ 1 ∷ 0 ∷ 0 ∷ 0 ∷ [] }
+    ∷ record { item = 1; computed = penaltyPlayed 1000 100000; settled = accepted 2 ++ 0 ∷ 1 ∷ 1 ∷ 0 ∷ 1000 ∷ 1000 ∷ 0 ∷ 0 ∷ [] }
+    ∷ record { item = 2; computed = penaltyPlayed 1 50000; settled = accepted 2 ++ 0 ∷ 1 ∷ 1 ∷ 0 ∷ 1 ∷ 1 ∷ 0 ∷ 0 ∷ [] }
+    ∷ record { item = 2; computed = penaltyPlayed 1 49999; settled = accepted 2 ++ 0 ∷ 1 ∷ 1 ∷ 0 ∷ 1 ∷ 0 ∷ 0 ∷ 0 ∷ [] }
     ∷ record {
       item = 3;
-      computed = closes (bookOn 51 1 1000 0 0) 100005 0;
-      settled = 0 ∷ 2 ∷ 1 ∷ 0 ∷ 1 ∷ 0 ∷ 0 ∷ 0 ∷ 4 ∷ 0 ∷ 1 ∷ 10001 ∷ 0 ∷ 0 ∷ [];
+      computed = compensationPlayed 100005;
+      settled = accepted 15 ++ compensatedFor 10001;
     }
     ∷ record {
       item = 3;
-      computed = closes (bookOn 51 1 1000 0 0) 100004 0;
-      settled = 0 ∷ 2 ∷ 1 ∷ 0 ∷ 1 ∷ 0 ∷ 0 ∷ 0 ∷ 4 ∷ 0 ∷ 1 ∷ 10000 ∷ 0 ∷ 0 ∷ [];
+      computed = compensationPlayed 100004;
+      settled = accepted 15 ++ compensatedFor 10000;
+    }
+    ∷ record { item = 4; computed = capPlayed; settled = accepted 13 ++ 0 ∷ 18 ∷ [] }
+    ∷ record {
+      item = 5;
+      computed = matchPlayed 10000000 10000201 10000200;
+      settled = accepted 1 ++ oneOfThree;
+    }
+    ∷ record {
+      item = 6;
+      computed = matchPlayed 10000001 10002502 10002501;
+      settled = accepted 1 ++ oneOfThree;
+    }
+    ∷ record { item = 7; computed = deliversPlayed; settled = accepted 2 ++ threeCash }
+    ∷ record {
+      item = 8;
+      computed = monthPlayed (sale 3 0 200 1000 ++ sale 3 1 100 1000);
+      settled = accepted 5 ++ 0 ∷ 67 ∷ 33 ∷ 0 ∷ [];
+    }
+    ∷ record {
+      item = 8;
+      computed = monthPlayed (sale 3 0 100 1000 ++ sale 3 1 100 1000 ++ sale 3 2 100 1000);
+      settled = accepted 7 ++ 0 ∷ 34 ∷ 33 ∷ 33 ∷ [];
     }
     ∷ record {
       item = 10;
-      computed = closes offeredBook 100000 0;
-      settled = 0 ∷ 3 ∷ 1 ∷ 0 ∷ 10 ∷ 0 ∷ 0 ∷ 0 ∷ 3 ∷ 0 ∷ 5 ∷ 2500 ∷ 2 ∷ 100500 ∷ 3 ∷ 0 ∷ 5 ∷ 5000 ∷ 1 ∷ 101000 ∷ [];
+      computed = auctionPlayed;
+      settled = accepted 16 ++ boughtInTwo;
     }
-    ∷ record { item = 8; computed = paysOut (pos 200 ∷ pos 100 ∷ pos 0 ∷ negsuc 299 ∷ []); settled = 67 ∷ 33 ∷ 0 ∷ [] }
-    ∷ record { item = 8; computed = paysOut (pos 100 ∷ pos 100 ∷ pos 100 ∷ negsuc 299 ∷ []); settled = 34 ∷ 33 ∷ 33 ∷ [] }
     ∷ []

@@ -57,7 +57,7 @@ add-result-2 c = search needs
 
 returns : tie.Need-returns
 unfolding closedDays listed
-returns c = let open-days = c .before .before .before .before .before .before .before .before .listed .ensures in let closed = c .before .before .before .before .before .before .listed2 .ensures in
+returns c = let open-days = c .before .before .before .before .before .before .before .before .listed .ensures .0 in let closed = c .before .before .before .before .before .before .listed2 .ensures .0 in
     omega (
       arith,
       none-differs (c .before .before .before .before .before .nth-after-2 .ensures ∙ ap (after 30) open-days ∙ ap dayOrNone thirtieth) (c .before .before .before .before .compared .ensures .0),

@@ -1,0 +1,118 @@
+-- The examples as journals: an Open, calls one after another on its book, and what they answer.
+use Prim.Native.Nat.{ℕ}
+use mathlib.Core.List.{List, [], _∷_, _++_}
+use lib.ListN.{take, replicate}
+use Rattle.calendar.specs.Closed.{day}
+use Rattle.closing.specs.Lines.{flat}
+use Rattle.book.specs.declared.Book.{Book}
+use Rattle.journal.specs.Calls.{Opening, Call, enter, deliver, offer, close, month, Event}
+use Rattle.journal.specs.Effects.{effectOf}
+use Rattle.journal.specs.Played.{outcome, eventOf, begun}
+
+-- O1 and O4, Open: the book of these journals begins on day 2 without closed days. It has terms 1, by which notice, grace
+-- and last are at 7, 10 and 13 clearing days.
+abbrev pub opening : Opening
+opening = record { first = day 2; closed = []; terms = 1 }
+
+-- ---- calls one after another
+-- the book after calls, the first of which stands first
+abbrev pub bookAfter : Book → List Call → Book
+bookAfter b [] = b
+bookAfter b (c ∷ later) = bookAfter (outcome b c .book) later
+
+-- the calls with what came of them, in the same order
+abbrev pub eventsOn : Book → List Call → List Event
+eventsOn b [] = []
+eventsOn b (c ∷ later) = eventOf b c ∷ eventsOn (outcome b c .book) later
+
+-- O8, Open: the answer numbers, which are 0 where a call was done
+abbrev pub numbersOf : List Event → List ℕ
+numbersOf [] = []
+numbersOf (e ∷ later) = e .answer ∷ numbersOf later
+
+-- what the numbers are if all of n calls are accepted
+abbrev pub accepted : ℕ → List ℕ
+accepted n = replicate n 0
+
+-- J5, Whole journals: all that calls answer, which is the number and the results of each, and the words of the lines that
+-- a Close reports; a refused Close returns 0 as the number of its lines
+abbrev pub answersOf : List Event → List ℕ
+answersOf [] = []
+answersOf (e ∷ later) = (e .answer ∷ e .results ++ flat (effectOf (e .call) (e .results) (e .words) .lines)) ++ answersOf later
+
+-- the answer of a Month: its number, and what it pays to the first three members
+abbrev pub payoutsOf : List Event → List ℕ
+payoutsOf [] = []
+payoutsOf (e ∷ later) = (e .answer ∷ take 3 (e .words)) ++ payoutsOf later
+
+-- what a journal shows: the numbers of the calls that lead to an example, and behind them what its own calls answer
+abbrev pub shown : (List Event → List ℕ) → List Call → List Call → List ℕ
+shown answers lead calls =
+    numbersOf (eventsOn (begun opening .book) lead) ++ answers (eventsOn (bookAfter (begun opening .book) lead) calls)
+
+-- ---- the calls of the examples
+-- E4, Enter: two legs that match, by which a seller delivers q units to a buyer on day 2 for a cents
+abbrev pub sale : ℕ → ℕ → ℕ → ℕ → List Call
+sale seller buyer q a = enter seller buyer 0 q a (day 2) ∷ enter buyer seller 1 q a (day 2) ∷ []
+
+-- E1, Enter: member 1 instructs to receive 10 units from member 0 for a cents
+abbrev pub receives : ℕ → Call
+receives a = enter 1 0 1 10 a (day 2)
+
+-- C1, Close: a Close at a price and a rate, which is lent 1,152 words
+abbrev pub closeAt : ℕ → ℕ → Call
+closeAt price rate = close price rate (replicate 1152 0)
+
+-- C17, Close: n Closes, each of which moves today on by one clearing day. They are at par and their penalties are 0.
+abbrev pub daysPass : ℕ → List Call
+daysPass n = replicate n (closeAt 100000 0)
+
+-- B7 and B9, Buy-in: member 0 sells 10 units to member 1 for 1,000,000 cents and does not deliver. Ten Closes at the ages
+-- 0 to 9 lead to the Close at age = grace, which leaves its price; on the next day there can be offers.
+abbrev pub toBuyIn : ℕ → List Call
+toBuyIn gracePrice = sale 0 1 10 1000000 ++ daysPass 10 ++ closeAt gracePrice 0 ∷ []
+
+-- M3, Month: a Month that collects 100 cents from member 3
+abbrev pub collecting : Call
+collecting = month (0 ∷ 0 ∷ 0 ∷ 100 ∷ replicate 28 0) (replicate 32 7)
+
+-- ---- the examples
+-- X1 and X2, Settled examples: member 0 sells q units for 1,000 cents and does not deliver them on day 2. This is what the
+-- Close of that day answers, at this price and a rate of 10.
+abbrev pub penaltyPlayed : ℕ → ℕ → List ℕ
+penaltyPlayed q price = shown answersOf (sale 0 1 q 1000) (closeAt price 10 ∷ [])
+
+-- X3, Settled examples: member 0 sells 1 unit and never delivers it. The fourteenth Close is the one at age = last, and this
+-- is what it answers, at this price.
+abbrev pub compensationPlayed : ℕ → List ℕ
+compensationPlayed price = shown answersOf (sale 0 1 1 1000 ++ daysPass 13) (closeAt price 0 ∷ [])
+
+-- X4, Settled examples: there are two offers of 5 units
+abbrev pub capOffers : List Call
+capOffers = offer 0 7 5 107998 ∷ offer 0 7 5 107999 ∷ []
+
+-- X4, Settled examples: the Close at age = grace is at 99,999 and all others are at 100,000. Then the offers come.
+abbrev pub capPlayed : List ℕ
+capPlayed = shown answersOf (toBuyIn 99999) capOffers
+
+-- X5 and X6, Settled examples: a leg delivers for a cents. The first leg to receive is above the tolerance; it is accepted
+-- and finds no match. The second has the amount 0 and is refused. The third is just at the tolerance and matches.
+abbrev pub matchPlayed : ℕ → ℕ → ℕ → List ℕ
+matchPlayed a above most = shown answersOf (enter 0 1 0 10 a (day 2) ∷ []) (receives above ∷ receives 0 ∷ receives most ∷ [])
+
+-- X7, Settled examples: there are three Delivers of one unit, one after another
+abbrev pub deliversPlayed : List ℕ
+deliversPlayed = shown answersOf (sale 0 1 3 1000) (deliver 0 1 ∷ deliver 0 1 ∷ deliver 0 1 ∷ [])
+
+-- X8, Settled examples: at a price of 100,000 and a rate of 10, member 3 owes one cent for each unit that it sold and did
+-- not deliver
+abbrev pub monthPlayed : List Call → List ℕ
+monthPlayed sales = shown payoutsOf (sales ++ closeAt 100000 10 ∷ []) (collecting ∷ [])
+
+-- X10, Settled examples: there are three offers
+abbrev pub auctionOffers : List Call
+auctionOffers = offer 0 1 7 101000 ∷ offer 0 2 5 100500 ∷ offer 0 3 7 101000 ∷ []
+
+-- X10, Settled examples: the offers come on the first day of the buy-in, and then that day's Close
+abbrev pub auctionPlayed : List ℕ
+auctionPlayed = shown answersOf (toBuyIn 100000) (auctionOffers ++ closeAt 100000 0 ∷ [])

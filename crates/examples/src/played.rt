@@ -1,0 +1,134 @@
+// The settled examples that are worded as calls, played on a book from an Open.
+use crate::compared;
+use book::Book;
+use calendar::Day;
+ghost use mathlib.Core.Path.{_≡_};
+ghost use mathlib.Core.List.{[], _∷_, _++_};
+ghost use Rattle.book.specs.Book.{Valid};
+ghost use Rattle.journal.specs.Played.{begun};
+ghost use Rattle.examples.specs.Played.{opening, bookAfter, sale, closeAt, daysPass, toBuyIn, accepted, matchPlayed};
+ghost use Rattle.examples.specs.Table.{oneOfThree};
+
+// The book of an Open on day 2, without closed days and by terms 1.
+fn opened() -> Book
+    ensures { λ r. ⌜ r ≡ begun opening .book ⌝ }
+    ensures { λ r. ⌜ Valid r ⌝ }
+{
+    let none = [0u64; 0];
+    let opened = Book::open(Day(2), &none, 1);
+    opened.book
+}
+
+// That book with a sale of member 0 to member 1, due on day 2.
+fn sold(quantity: u64, amount: u64) -> Book
+    ensures { λ r. ⌜ r ≡ bookAfter (begun opening .book) (sale 0 1 quantity amount) ⌝ }
+    ensures { λ r. ⌜ Valid r ⌝ }
+{
+    let delivers = opened().enter(0, 1, 0, quantity, amount, Day(2));
+    let one = delivers.book;
+    let receives = one.enter(1, 0, 1, quantity, amount, Day(2));
+    receives.book
+}
+
+// A Close without penalties, which ends the day.
+fn day_ends(book: Book, price: u64) -> Book
+    requires { ⌜ Valid book ⌝ }
+    ensures { λ r. ⌜ r ≡ bookAfter book (closeAt price 0 ∷ []) ⌝ }
+    ensures { λ r. ⌜ Valid r ⌝ }
+{
+    let mut lines = [0u64; 1152];
+    let closed = book.close(price, 0, &mut lines);
+    closed.book
+}
+
+// Several days end, each with a Close at par.
+fn days_pass(book: Book, count: u64) -> Book
+    requires { ⌜ Valid book ⌝ }
+    ensures { λ r. ⌜ r ≡ bookAfter book (daysPass count) ⌝ }
+    ensures { λ r. ⌜ Valid r ⌝ }
+{
+    let mut today = book;
+    let mut left = count;
+    while 0 < left {
+        today = day_ends(today, 100_000);
+        left -= 1;
+    }
+    today
+}
+
+// The book on the first day that takes offers, if the Close at age = grace is at this price.
+fn in_buy_in(price: u64) -> Book
+    ensures { λ r. ⌜ r ≡ bookAfter (begun opening .book) (toBuyIn price) ⌝ }
+    ensures { λ r. ⌜ Valid r ⌝ }
+{
+    day_ends(days_pass(sold(10, 1_000_000), 10), price)
+}
+
+// Example 4: two offers over a Close at 99,999.
+pub fn cap() -> u64
+    ensures { λ r. ⌜ r ≡ 0 ⌝ }
+{
+    let taken = in_buy_in(99_999).offer(0, 7, 5, 107_998);
+    let after = taken.book;
+    let refused = after.offer(0, 7, 5, 107_999);
+    compared(4, taken.answer, 0) + compared(4, refused.answer, 18)
+}
+
+// A leg that delivers, and then three that receive: the first finds no match, the second is refused, the third matches.
+fn one_of_three(item: u64, delivering: u64, above: u64, most: u64) -> u64
+    requires { ⌜ matchPlayed delivering above most ≡ accepted 1 ++ oneOfThree ⌝ }
+    ensures { λ r. ⌜ r ≡ 0 ⌝ }
+{
+    let waits = opened().enter(0, 1, 0, 10, delivering, Day(2));
+    let one = waits.book;
+    let alone = one.enter(1, 0, 1, 10, above, Day(2));
+    let two = alone.book;
+    let refused = two.enter(1, 0, 1, 10, 0, Day(2));
+    let same = refused.book;
+    let matched = same.enter(1, 0, 1, 10, most, Day(2));
+    compared(item, alone.answer, 0)
+        + compared(item, alone.obligation, 0)
+        + compared(item, refused.answer, 3)
+        + compared(item, matched.obligation, 1)
+}
+
+// Examples 5 and 6: an Enter that finds no match, one that is refused, and one that matches.
+pub fn tolerance() -> u64
+    ensures { λ r. ⌜ r ≡ 0 ⌝ }
+{
+    one_of_three(5, 10_000_000, 10_000_201, 10_000_200)
+        + one_of_three(6, 10_000_001, 10_002_502, 10_002_501)
+}
+
+// Example 7: three Delivers, one after another.
+pub fn deliveries() -> u64
+    ensures { λ r. ⌜ r ≡ 0 ⌝ }
+{
+    let first = sold(3, 1_000).deliver(0, 1);
+    let one = first.book;
+    let second = one.deliver(0, 1);
+    let two = second.book;
+    let third = two.deliver(0, 1);
+    compared(7, first.cash, 333) + compared(7, second.cash, 333) + compared(7, third.cash, 334)
+}
+
+// Example 10: three offers, and the lines of the Close of their day.
+pub fn auction() -> u64
+    ensures { λ r. ⌜ r ≡ 0 ⌝ }
+{
+    let first = in_buy_in(100_000).offer(0, 1, 7, 101_000);
+    let one = first.book;
+    let second = one.offer(0, 2, 5, 100_500);
+    let two = second.book;
+    let third = two.offer(0, 3, 7, 101_000);
+    let three = third.book;
+    let mut lines = [0u64; 1152];
+    let closed = three.close(100_000, 0, &mut lines);
+    compared(10, closed.count as u64, 3)
+        + compared(10, lines[10], 2)
+        + compared(10, lines[8], 5)
+        + compared(10, lines[9], 2_500)
+        + compared(10, lines[16], 1)
+        + compared(10, lines[14], 5)
+        + compared(10, lines[15], 5_000)
+}
