@@ -4,7 +4,7 @@ use std::collections::BTreeSet;
 use std::io::{self, Write};
 
 use crate::book::{LegState, Obligation, CLOSE_WORDS, LAST_DAY, MAX_SETTLEMENT_DAY, MEMBERS};
-use crate::journal::NAMES;
+use crate::journal::{NAMES, RULES};
 use crate::{Cast, Generator};
 
 /// Numbers at and beside every limit of the rules, and at the ends of the machine's words.
@@ -532,6 +532,7 @@ impl<W: Write> Generator<W> {
             "close" => self.close_arguments(),
             "month" => self.month_arguments(),
             "status" => vec![self.obligation() as u64],
+            "rules" => vec![],
             _ => vec![self.party()],
         }
     }
@@ -609,17 +610,24 @@ impl<W: Write> Generator<W> {
         self.bare_call("open", &arguments).map(|_| ())
     }
 
-    /// A spoiled call of any kind; Open seldom, as it ends the book.
+    /// A spoiled call of any kind; Open seldom, as it ends the book. `rules` has no arguments to
+    /// spoil.
     pub fn any_spoiled(&mut self) -> io::Result<()> {
         let first = usize::from(!self.random.percent(2));
-        let name = NAMES[first + self.random.place(NAMES.len() - first)];
+        let name = NAMES[first + self.random.place(RULES - first)];
         self.spoiled(name)
     }
 
+    /// Asks for the edition of the rules.
+    pub fn ask_rules(&mut self) -> io::Result<()> {
+        self.bare_call("rules", &[]).map(|_| ())
+    }
+
     pub fn make_noise(&mut self) -> io::Result<()> {
-        match self.random.below(10) {
+        match self.random.below(11) {
             0..=4 => self.any_spoiled(),
             5 | 6 => self.comment(),
+            7 => self.ask_rules(),
             _ => self.malformed_line(),
         }
     }

@@ -1,26 +1,26 @@
 //! The settlement discipline book of one bond.
 //!
-//! "01" in the comments is the paper of the rules, cited by heading and item. Every call tests its
+//! "Rules" in the comments names a chapter of the rules and an item of it. Every call tests its
 //! refusals in rising order of their numbers and changes the book only when it is accepted.
 
 use std::cmp::Reverse;
 use std::ops::RangeInclusive;
 
-/// 01, Month: thirty-two accounts, so members are 0 to 31.
+/// Rules, Month: thirty-two accounts, so members are 0 to 31.
 pub const MEMBERS: usize = 32;
-/// 01, Instructions: a book holds 128 legs over its whole life.
+/// Rules, Instructions: a book holds 128 legs over its whole life.
 pub const MAX_LEGS: usize = 128;
-/// 01, Buy-in: at most 64 offers.
+/// Rules, Buy-in: at most 64 offers.
 pub const MAX_OFFERS: usize = 64;
-/// 01, Open: at most 64 closed days.
+/// Rules, Open: at most 64 closed days.
 pub const MAX_CLOSED_DAYS: usize = 64;
-/// 01, Close: a list of at least 1,152 words.
+/// Rules, Close: a list of at least 1,152 words.
 pub const CLOSE_WORDS: usize = 1_152;
-/// 01, Close: a line of six words.
+/// Rules, Close: a line of six words.
 pub const LINE_WORDS: usize = 6;
-/// 01, Days and units: days run to 65,535.
+/// Rules, Days and units: days run to 65,535.
 pub const LAST_DAY: u64 = 65_535;
-/// 01, Refusals, 11: J above 60,000.
+/// Rules, Refusals, 11: J above 60,000.
 pub const MAX_SETTLEMENT_DAY: u64 = 60_000;
 
 const MAX_SUPPLIER: u64 = 999;
@@ -30,13 +30,13 @@ const AMOUNTS: RangeInclusive<u64> = 1..=20_000_000_000;
 const CLOSE_PRICES: RangeInclusive<u64> = 1..=150_000;
 const OFFER_PRICES: RangeInclusive<u64> = 1..=200_000;
 
-/// The kinds of a Close's lines (01, Close).
+/// The kinds of a Close's lines (rules, Close).
 const PENALTY: u64 = 1;
 const NOTICE: u64 = 2;
 const BOUGHT: u64 = 3;
 const COMPENSATED: u64 = 4;
 
-/// The number of a refusal (01, Refusals).
+/// The number of a refusal (rules, Refusals).
 pub type Refusal = u8;
 
 /// Refuses with the number given if its condition holds.
@@ -59,7 +59,7 @@ fn place(number: u64) -> usize {
 
 // ---------------------------------------------------------------- calendar
 
-/// 01, Days and units: which days are clearing days.
+/// Rules, Days and units: which days are clearing days.
 #[derive(Clone, Debug, Default, PartialEq)]
 pub struct Calendar {
     /// The closed days that fall on weekdays, rising. The others close nothing.
@@ -101,7 +101,7 @@ impl Calendar {
         weekdays - closed as u64
     }
 
-    /// The number of clearing days after the first day given up to the second (01, Buy-in, age).
+    /// The number of clearing days after the first day given up to the second (rules, Buy-in, age).
     /// It is 0 where the first is not before the second.
     pub fn clearing_days_between(&self, after: u64, up_to: u64) -> u64 {
         self.count_up_to(up_to)
@@ -109,7 +109,7 @@ impl Calendar {
     }
 }
 
-/// 01, Open: the ages at which the stages stand.
+/// Rules, Open: the ages at which the stages stand.
 #[derive(Clone, Copy, Debug, PartialEq)]
 pub struct Terms {
     pub notice: u64,
@@ -131,7 +131,7 @@ const TERMS: [Terms; 2] = [
 ];
 
 impl Terms {
-    /// 01, Close: at ages above grace up to last.
+    /// Rules, Close: at ages above grace up to last.
     pub fn in_buy_in(&self, age: u64) -> bool {
         self.grace < age && age <= self.last
     }
@@ -139,17 +139,17 @@ impl Terms {
 
 // ---------------------------------------------------------------- sums of money
 
-/// 01, Close, penalty: at most 100,000 x 150,000 x 100 before the division.
+/// Rules, Close, penalty: at most 100,000 x 150,000 x 100 before the division.
 fn penalty(quantity: u64, price: u64, rate: u64) -> u64 {
     (quantity * price * rate + 500_000) / 1_000_000
 }
 
-/// 01, Close, at age = last.
+/// Rules, Close, at age = last.
 fn compensation(quantity: u64, price: u64) -> u64 {
     (quantity * price + 5) / 10
 }
 
-/// 01, Enter: the tolerance goes by the delivering amount.
+/// Rules, Enter: the tolerance goes by the delivering amount.
 fn tolerance(delivering_amount: u64) -> u64 {
     if delivering_amount <= 10_000_000 {
         200
@@ -158,12 +158,12 @@ fn tolerance(delivering_amount: u64) -> u64 {
     }
 }
 
-/// 01, Buy-in: the cap over the price of the Close at age = grace.
+/// Rules, Buy-in: the cap over the price of the Close at age = grace.
 fn within_cap(offer_price: u64, grace_price: u64) -> bool {
     100 * offer_price <= 108 * grace_price
 }
 
-/// 01, Month: the shares of the sum collected.
+/// Rules, Month: the shares of the sum collected.
 fn shares(accounts: &[i64; MEMBERS], collected: u128) -> [u64; MEMBERS] {
     let mut shares = [0; MEMBERS];
     let claims = accounts.map(|account| account.max(0) as u128);
@@ -206,7 +206,7 @@ pub struct Leg {
 }
 
 impl Leg {
-    /// 01, Enter: whether two legs match, but for the older one's waiting.
+    /// Rules, Enter: whether two legs match, but for the older one's waiting.
     fn fits(&self, new: &Leg) -> bool {
         let delivering = if self.delivers {
             self.amount
@@ -261,7 +261,7 @@ impl Obligation {
         self.quantity - self.delivered - self.bought_in - self.compensated - self.cancelled
     }
 
-    /// 01, Deliver: the cash for a further quantity delivered or bought in.
+    /// Rules, Deliver: the cash for a further quantity delivered or bought in.
     /// A x t is at most 20,000,000,000 x 100,000.
     fn cash_for(&self, quantity: u64) -> u64 {
         let before = self.delivered + self.bought_in;
@@ -280,7 +280,7 @@ impl Obligation {
         }
     }
 
-    /// 01, Close: one offer's turn, which gives the quantity and the charge.
+    /// Rules, Close: one offer's turn, which gives the quantity and the charge.
     fn buy_in(&mut self, offer: &Offer) -> (u64, u64) {
         let quantity = offer.quantity.min(self.outstanding());
         let value = quantity * offer.price;
@@ -341,12 +341,12 @@ impl Book {
         }
     }
 
-    /// 01, Open: the book that a refused Open returns.
+    /// Rules, Open: the book that a refused Open returns.
     pub fn of_refused_open() -> Self {
         Book::fresh(2, TERMS[0], Calendar::default())
     }
 
-    /// 01, Open.
+    /// Rules, Open.
     pub fn open(first_day: u64, terms: u64, closed: &[u64]) -> Result<Self, Refusal> {
         refuse_if(1, terms > 1)?;
         let rising = closed.windows(2).all(|pair| pair[0] < pair[1]);
@@ -357,7 +357,7 @@ impl Book {
         Ok(Book::fresh(first_day, TERMS[terms as usize], calendar))
     }
 
-    /// 01, Enter: the leg, and the obligation plus 1, or 0.
+    /// Rules, Enter: the leg, and the obligation plus 1, or 0.
     pub fn enter(
         &mut self,
         member: u64,
@@ -423,7 +423,7 @@ impl Book {
         number
     }
 
-    /// 01, Withdraw.
+    /// Rules, Withdraw.
     pub fn withdraw(&mut self, leg: u64, member: u64) -> Result<(), Refusal> {
         refuse_if(1, no_member(member))?;
         let leg = self.legs.get_mut(place(leg)).ok_or(13)?;
@@ -433,7 +433,7 @@ impl Book {
         Ok(())
     }
 
-    /// 01, Refusals: a call that names an obligation first fetches it or refuses by 13.
+    /// Rules, Refusals: a call that names an obligation first fetches it or refuses by 13.
     fn fetch(&self, obligation: u64) -> Result<&Obligation, Refusal> {
         self.obligations.get(place(obligation)).ok_or(13)
     }
@@ -442,7 +442,7 @@ impl Book {
         self.obligations.get_mut(place(obligation)).ok_or(13)
     }
 
-    /// 01, Cancel: the quantity moved.
+    /// Rules, Cancel: the quantity moved.
     pub fn cancel(&mut self, obligation: u64, member: u64) -> Result<u64, Refusal> {
         refuse_if(1, no_member(member))?;
         let obligation = self.fetch_mut(obligation)?;
@@ -459,7 +459,7 @@ impl Book {
         }
     }
 
-    /// 01, Deliver: the cash.
+    /// Rules, Deliver: the cash.
     pub fn deliver(&mut self, obligation: u64, quantity: u64) -> Result<u64, Refusal> {
         refuse_if(2, !QUANTITIES.contains(&quantity))?;
         let today = self.today;
@@ -471,13 +471,13 @@ impl Book {
         Ok(cash)
     }
 
-    /// 01, Buy-in: the age is the number of clearing days after J up to today.
+    /// Rules, Buy-in: the age is the number of clearing days after J up to today.
     pub fn age(&self, obligation: &Obligation) -> u64 {
         self.calendar
             .clearing_days_between(obligation.day, self.today)
     }
 
-    /// 01, Offer.
+    /// Rules, Offer.
     pub fn offer(
         &mut self,
         obligation: u64,
@@ -506,7 +506,7 @@ impl Book {
         Ok(())
     }
 
-    /// 01, Close: the number of lines.
+    /// Rules, Close: the number of lines.
     pub fn close(&mut self, price: u64, rate: u64, list: &mut [u64]) -> Result<usize, Refusal> {
         refuse_if(3, !CLOSE_PRICES.contains(&price) || rate > MAX_RATE)?;
         refuse_if(5, list.len() < CLOSE_WORDS)?;
@@ -525,7 +525,7 @@ impl Book {
         Ok(lines.count)
     }
 
-    /// 01, Close, the four items, for an obligation with J reached and something outstanding.
+    /// Rules, Close, the four items, for an obligation with J reached and something outstanding.
     fn close_obligation(&mut self, number: usize, price: u64, rate: u64, lines: &mut Lines) {
         let age = self.age(&self.obligations[number]);
         let terms = self.terms;
@@ -544,7 +544,7 @@ impl Book {
             lines.put([NOTICE, named, outstanding, 0, 0, 0]);
         }
 
-        // 01, Buy-in: the price that the cap of the offers goes by.
+        // Rules, Buy-in: the price that the cap of the offers goes by.
         if age == terms.grace {
             obligation.grace_price = Some(price);
         }
@@ -567,7 +567,7 @@ impl Book {
         }
     }
 
-    /// 01, Month.
+    /// Rules, Month.
     pub fn month(&mut self, collected: &[u64], payouts: &mut [u64]) -> Result<(), Refusal> {
         refuse_if(5, collected.len() != MEMBERS || payouts.len() != MEMBERS)?;
         let owed = self.accounts.map(|account| account.min(0).unsigned_abs());
@@ -587,7 +587,7 @@ impl Book {
         Ok(())
     }
 
-    /// 01, Reading: Q, delivered, bought in, compensated, cancelled, outstanding.
+    /// Rules, Reading: Q, delivered, bought in, compensated, cancelled, outstanding.
     pub fn status(&self, obligation: u64) -> Result<[u64; 6], Refusal> {
         let o = self.fetch(obligation)?;
         Ok([
@@ -600,27 +600,27 @@ impl Book {
         ])
     }
 
-    /// 01, Reading: the account of a member.
+    /// Rules, Reading: the account of a member.
     pub fn account(&self, member: u64) -> Result<i64, Refusal> {
         refuse_if(1, no_member(member))?;
         Ok(self.accounts[member as usize])
     }
 
-    /// 01, Reading: the lowest-numbered obligation, plus 1, that Look may name, or 0.
+    /// Rules, Reading: the lowest-numbered obligation, plus 1, that Look may name, or 0.
     pub fn look(&self, member: u64) -> Result<u64, Refusal> {
         refuse_if(1, no_member(member))?;
         let found = (0..self.obligations.len() as u64).find(|&number| self.is_late(number, member));
         Ok(found.map_or(0, |number| number + 1))
     }
 
-    /// 01, Reading: whether Look for the member may name the obligation.
+    /// Rules, Reading: whether Look for the member may name the obligation.
     pub fn is_late(&self, obligation: u64, member: u64) -> bool {
         self.fetch(obligation)
             .is_ok_and(|o| o.seller == member && o.day < self.today && o.outstanding() > 0)
     }
 }
 
-/// 01, Close: offers by rising price, then larger offered quantity, then earlier entry.
+/// Rules, Close: offers by rising price, then larger offered quantity, then earlier entry.
 fn auction_order(offers: &[Offer], obligation: usize) -> Vec<&Offer> {
     let mut queue: Vec<&Offer> = offers
         .iter()
@@ -635,7 +635,7 @@ fn auction_order(offers: &[Offer], obligation: usize) -> Vec<&Offer> {
 mod tests {
     use super::*;
 
-    /// The n-th clearing day after a day, word by word as in 01, Days and units.
+    /// The n-th clearing day after a day, word by word as the rules say it under Days and units.
     fn nth_after(calendar: &Calendar, day: u64, n: u64) -> Option<u64> {
         if n == 0 {
             Some(day)

@@ -1,6 +1,5 @@
 //! Comparing another program's answers.
 
-use std::fs::File;
 use std::io::{self, BufRead, BufReader, Read};
 
 use crate::book::Book;
@@ -12,15 +11,15 @@ const LONGEST_ANSWER: u64 = 1 << 20;
 const SHOWN: usize = 1_000;
 
 /// The lines of the other program's answers.
-pub struct Answers {
-    file: BufReader<File>,
+pub struct Answers<R> {
+    input: BufReader<R>,
     line: Vec<u8>,
 }
 
-impl Answers {
-    pub fn new(file: File) -> Self {
+impl<R: Read> Answers<R> {
+    pub fn new(input: R) -> Self {
         Answers {
-            file: BufReader::with_capacity(1 << 16, file),
+            input: BufReader::with_capacity(1 << 16, input),
             line: Vec::new(),
         }
     }
@@ -28,14 +27,14 @@ impl Answers {
     /// The next line with its line feed if it has one; nothing at the end.
     pub fn next_line(&mut self) -> io::Result<&[u8]> {
         self.line.clear();
-        (&mut self.file)
+        (&mut self.input)
             .take(LONGEST_ANSWER)
             .read_until(b'\n', &mut self.line)?;
         Ok(&self.line)
     }
 }
 
-/// 01, Reading: which obligation Look names is left free among those that qualify. Whether it may
+/// Rules, Reading: which obligation Look names is left free among those that qualify. Whether it may
 /// answer 0 is no free choice, nor is a refusal.
 pub fn look_allows(book: &Book, call: Call, given: &[u8]) -> bool {
     let Call::Look { member } = call else {
@@ -52,14 +51,23 @@ fn named(given: &[u8]) -> Option<u64> {
     (format!("0 {plus_1}\n") == text).then_some(plus_1)
 }
 
-/// Shows the first difference: the journal's line, and the lines of the answer.
-pub fn report(number: u64, line: &[u8], expected: &[u8], given: &[u8]) {
-    println!("line {number}: {}", visible(line));
-    println!("expected: {}", answer_line(expected));
-    println!("given:    {}", answer_line(given));
+/// Shows a difference: the place in the journal, and the lines of the answer.
+pub fn difference(number: u64, place: &str, expected: &[u8], given: &[u8]) -> String {
+    let (expected, given) = (line_shown(expected), line_shown(given));
+    format!("line {number}: {place}\nexpected: {expected}\ngiven:    {given}\n")
 }
 
-fn answer_line(line: &[u8]) -> String {
+/// Shows the end of the journal, where the line `end` is expected, or nothing more.
+pub fn difference_at_end(number: u64, expected: &[u8], given: &[u8]) -> String {
+    let mut text = difference(number, "(the end of the journal)", expected, given);
+    if given.is_empty() {
+        text += "The last line of the answers is missing.\n";
+    }
+    text
+}
+
+/// A line as it is shown, which has its line feed unless it was torn off.
+pub fn line_shown(line: &[u8]) -> String {
     match line.strip_suffix(b"\n") {
         Some(text) => visible(text),
         None if line.is_empty() => "(nothing)".to_string(),
@@ -69,4 +77,49 @@ fn answer_line(line: &[u8]) -> String {
 
 fn visible(text: &[u8]) -> String {
     text[..text.len().min(SHOWN)].escape_ascii().to_string()
+}
+
+#[cfg(test)]
+mod tests {
+    use super::*;
+
+    #[test]
+    fn lines_of_answers_keep_their_line_feeds() {
+        let mut answers = Answers::new(&b"0\n\nend 2"[..]);
+        for line in [&b"0\n"[..], b"\n", b"end 2", b"", b""] {
+            assert_eq!(answers.next_line().unwrap(), line);
+        }
+    }
+
+    #[test]
+    fn only_answers_in_the_format_name_an_obligation() {
+        assert_eq!(named(b"0 12\n"), Some(12));
+        for given in [
+            &b"0 12"[..],
+            b"0 012\n",
+            b"0 +12\n",
+            b"1 12\n",
+            b"0 12 \n",
+            b"",
+        ] {
+            assert_eq!(named(given), None, "{given:?}");
+        }
+    }
+
+    #[test]
+    fn shown_differences() {
+        assert_eq!(
+            difference(3, "look 1", b"0 1\n", b"\x00"),
+            "line 3: look 1\nexpected: 0 1\ngiven:    \\x00 (and no line feed)\n"
+        );
+        assert_eq!(
+            difference_at_end(3, b"", b"end 3\n"),
+            "line 3: (the end of the journal)\nexpected: (nothing)\ngiven:    end 3\n"
+        );
+        assert_eq!(
+            difference_at_end(3, b"end 3\n", b""),
+            "line 3: (the end of the journal)\nexpected: end 3\ngiven:    (nothing)\n\
+            The last line of the answers is missing.\n"
+        );
+    }
 }

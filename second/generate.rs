@@ -2,10 +2,12 @@
 //!
 //! The generator plays its own journal on the book, so that it can aim: it knows the waiting legs,
 //! the open obligations, their ages and the accounts. `aim` makes plausible calls and spoils them,
-//! `scenario` strings them together, `malformed` makes lines that are no calls.
+//! `scenario` strings them together, `malformed` makes lines that are no calls, `ending` makes the
+//! last line.
 
 mod aim;
 mod book;
+mod ending;
 mod journal;
 mod malformed;
 mod play;
@@ -17,6 +19,7 @@ use std::io::{self, BufWriter, Write};
 use std::process::ExitCode;
 
 use book::Refusal;
+use ending::Ending;
 use journal::{is_comment, parse, CallSet, NAMES};
 use play::Player;
 use random::Random;
@@ -38,8 +41,7 @@ pub struct Generator<W: Write> {
     player: Player,
     calls: CallSet,
     out: W,
-    /// Lines written so far, and how many of them have an answer.
-    lines: u64,
+    /// How many of the lines written so far have an answer.
     written: u64,
     limit: u64,
     cast: Cast,
@@ -57,7 +59,6 @@ impl<W: Write> Generator<W> {
             player: Player::new(),
             calls,
             out,
-            lines: 0,
             written: 0,
             limit,
             cast: Cast {
@@ -76,14 +77,10 @@ impl<W: Write> Generator<W> {
         self.written >= self.limit
     }
 
-    /// Writes a line and plays it. The line feed is written before the next line: the last line
-    /// may lack it.
+    /// Writes a line and plays it.
     fn line(&mut self, line: &[u8]) -> io::Result<Option<Refusal>> {
-        if self.lines > 0 {
-            self.out.write_all(b"\n")?;
-        }
-        self.lines += 1;
         self.out.write_all(line)?;
+        self.out.write_all(b"\n")?;
         if is_comment(line) {
             return Ok(None);
         }
@@ -93,10 +90,15 @@ impl<W: Write> Generator<W> {
         Ok(call.map(|call| self.player.play(call, &mut self.answer)))
     }
 
+    /// Whether the name is that of a call that exists.
+    fn knows(&self, name: &str) -> bool {
+        let known = NAMES.iter().position(|&known| known == name);
+        known.is_some_and(|call| self.calls.has(call))
+    }
+
     /// Whether a call of the name may be written now.
     fn may_call(&self, name: &str) -> bool {
-        let known = NAMES.iter().position(|&known| known == name);
-        !self.is_done() && known.is_some_and(|call| self.calls.has(call))
+        !self.is_done() && self.knows(name)
     }
 
     /// Writes a call alone.
@@ -132,15 +134,16 @@ impl<W: Write> Generator<W> {
         Ok(answer)
     }
 
-    fn write_all(&mut self) -> io::Result<()> {
+    /// Writes the journal. A journal of no calls is an empty text.
+    fn write_all(&mut self, ending: Ending) -> io::Result<()> {
         let mut idle = 0;
         while !self.is_done() && idle < IDLE_SCENARIOS {
             let before = self.written;
             self.any_scenario()?;
             idle = if self.written > before { 0 } else { idle + 1 };
         }
-        if self.lines > 0 && !self.random.percent(10) {
-            self.out.write_all(b"\n")?;
+        if self.limit > 0 {
+            self.end(ending)?;
         }
         self.out.flush()
     }
@@ -166,7 +169,7 @@ fn main() -> ExitCode {
         return ExitCode::from(2);
     };
     let out = BufWriter::with_capacity(1 << 16, io::stdout().lock());
-    match Generator::new(seed, limit, calls, out).write_all() {
+    match Generator::new(seed, limit, calls, out).write_all(Ending::of_seed(seed)) {
         Ok(()) => ExitCode::SUCCESS,
         Err(error) => {
             eprintln!("{error}");

@@ -3,7 +3,7 @@
 use std::fmt::Write;
 
 use crate::book::Refusal;
-use crate::journal::{Call, CallSet, NAMES};
+use crate::journal::{Call, CallSet, NAMES, RULES};
 
 /// The answer numbers that each call can give, in the order of the names.
 const ANSWERS: [&[Refusal]; NAMES.len()] = [
@@ -18,12 +18,28 @@ const ANSWERS: [&[Refusal]; NAMES.len()] = [
     &[0, 13],
     &[0, 1],
     &[0, 1],
+    &[0],
 ];
 const CLOSE: usize = 6;
+
+/// What a torn last line says, though it is no call.
+#[derive(Clone, Copy)]
+pub enum Torn {
+    Call,
+    NoCall,
+    TooLong,
+    Comment,
+}
+
+/// The names of these, in their order.
+const TORN: [&str; 4] = ["call", "no-call", "too-long", "comment"];
 
 pub struct Hits {
     answers: [[u64; 32]; NAMES.len()],
     malformed: u64,
+    torn: [u64; TORN.len()],
+    whole: u64,
+    ends: u64,
 }
 
 impl Hits {
@@ -31,6 +47,9 @@ impl Hits {
         Hits {
             answers: [[0; 32]; NAMES.len()],
             malformed: 0,
+            torn: [0; TORN.len()],
+            whole: 0,
+            ends: 0,
         }
     }
 
@@ -38,11 +57,23 @@ impl Hits {
         self.answers[index(call)][usize::from(answer)] += 1;
     }
 
+    /// A whole line that is no call; the torn ones are counted apart.
     pub fn malformed(&mut self) {
         self.malformed += 1;
     }
 
-    /// One line for each pair of a call and an answer it can give, also for those not reached.
+    pub fn torn(&mut self, says: Torn) {
+        self.torn[says as usize] += 1;
+    }
+
+    /// The line `end`, after a last line that is whole or not; a text of no lines has none.
+    pub fn end(&mut self, last_is_whole: bool) {
+        self.ends += 1;
+        self.whole += u64::from(last_is_whole);
+    }
+
+    /// One line for each pair of a call and an answer it can give, also for those not reached,
+    /// and for the lines that are no calls and the ways in which a journal can end.
     pub fn table(&self, calls: &CallSet, kinds: &[u64; 5]) -> String {
         let mut table = String::new();
         let mut row =
@@ -63,6 +94,11 @@ impl Hits {
             }
         }
         row(format_args!("malformed {}", self.malformed));
+        for (says, count) in TORN.iter().zip(self.torn) {
+            row(format_args!("torn {says} {count}"));
+        }
+        row(format_args!("whole last line {}", self.whole));
+        row(format_args!("end {}", self.ends));
         table
     }
 }
@@ -81,5 +117,54 @@ fn index(call: &Call) -> usize {
         Call::Status { .. } => 8,
         Call::Account { .. } => 9,
         Call::Look { .. } => 10,
+        Call::Rules => RULES,
+    }
+}
+
+#[cfg(test)]
+mod tests {
+    use super::*;
+
+    /// The rows of the table that were met.
+    fn met(hits: &Hits, calls: &CallSet) -> Vec<String> {
+        let table = hits.table(calls, &[0; 5]);
+        let rows = table.lines().filter(|row| !row.ends_with(" 0"));
+        rows.map(str::to_string).collect()
+    }
+
+    #[test]
+    fn what_is_met_is_counted() {
+        let mut hits = Hits::new();
+        assert_eq!(met(&hits, &CallSet::all()), [""; 0]);
+        hits.call(&Call::Rules, 0);
+        hits.call(&Call::Rules, 0);
+        hits.malformed();
+        for says in [Torn::Call, Torn::NoCall, Torn::TooLong, Torn::Comment] {
+            hits.torn(says);
+        }
+        hits.torn(Torn::Comment);
+        hits.end(false);
+        hits.end(true);
+        let rows = [
+            "rules 0 2",
+            "malformed 1",
+            "torn call 1",
+            "torn no-call 1",
+            "torn too-long 1",
+            "torn comment 2",
+            "whole last line 1",
+            "end 2",
+        ];
+        assert_eq!(met(&hits, &CallSet::all()), rows);
+        let calls = CallSet::listed("open").unwrap();
+        assert_eq!(met(&hits, &calls), rows[1..]);
+    }
+
+    #[test]
+    fn what_is_not_met_is_listed() {
+        let table = Hits::new().table(&CallSet::all(), &[0; 5]);
+        for row in ["rules 0 0", "kind 4 0", "torn comment 0", "end 0"] {
+            assert!(table.lines().any(|line| line == row), "{row}");
+        }
     }
 }

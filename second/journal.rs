@@ -6,10 +6,12 @@ const MAX_LIST: u64 = 4_096;
 pub const MAX_LINE: usize = 65_536;
 
 /// The names of all calls; a call is known by its place here.
-pub const NAMES: [&str; 11] = [
+pub const NAMES: [&str; 12] = [
     "open", "enter", "withdraw", "cancel", "deliver", "offer", "close", "month", "status",
-    "account", "look",
+    "account", "look", "rules",
 ];
+/// The place of `rules`, which is no call on the book: those stand before it.
+pub const RULES: usize = 11;
 
 /// The calls that exist.
 #[derive(Clone, Copy)]
@@ -89,6 +91,7 @@ pub enum Call<'a> {
     Look {
         member: u64,
     },
+    Rules,
 }
 
 /// An empty line, and a line that starts with `#`.
@@ -96,7 +99,7 @@ pub fn is_comment(line: &[u8]) -> bool {
     matches!(line, [] | [b'#', ..])
 }
 
-/// The call of a line, or none if the line is no call. The arguments are put into `numbers`.
+/// The call of a whole line, or none if the line is no call. The arguments are put into `numbers`.
 pub fn parse<'a>(line: &[u8], calls: &CallSet, numbers: &'a mut Vec<u64>) -> Option<Call<'a>> {
     if line.len() > MAX_LINE {
         return None;
@@ -167,6 +170,7 @@ fn with_arguments<'a>(name: &str, numbers: &'a [u64]) -> Option<Call<'a>> {
         ("status", &[obligation]) => Call::Status { obligation },
         ("account", &[member]) => Call::Account { member },
         ("look", &[member]) => Call::Look { member },
+        ("rules", &[]) => Call::Rules,
         _ => return None,
     })
 }
@@ -204,11 +208,19 @@ mod tests {
             parsed("month 1 9 0 18446744073709551615").unwrap(),
             "Month { collected: [9], places: 0, fill: 18446744073709551615 }"
         );
+        assert_eq!(parsed("rules").unwrap(), "Rules");
+        assert_eq!(NAMES[RULES], "rules");
+    }
+
+    fn assert_no_calls(lines: &[&str]) {
+        for line in lines {
+            assert_eq!(parsed(line), None, "{line:?}");
+        }
     }
 
     #[test]
     fn no_calls() {
-        let none = [
+        assert_no_calls(&[
             " ",
             " #",
             "look",
@@ -235,10 +247,32 @@ mod tests {
             "month 1 32 7",
             "close 1 1 4097 0",
             "month 0 4097 0",
-        ];
-        for line in none {
-            assert_eq!(parsed(line), None, "{line:?}");
-        }
+            "end",
+            "end 1",
+            "? line 1",
+        ]);
+    }
+
+    #[test]
+    fn rules_takes_no_argument() {
+        assert_no_calls(&[
+            "rules 0", "rules ", " rules", "rules\r", "rules\0", "Rules", "rule",
+        ]);
+    }
+
+    #[test]
+    fn calls_of_later_editions_are_none() {
+        assert_no_calls(&[
+            "again 1152 0",
+            "target 2000 2000 6 0",
+            "rate 2 10",
+            "rate 2 10 10",
+            "close 100000 1152 0",
+            "cause 0 1",
+            "pair 0 1",
+            "report 100 0",
+            "defer 0 1",
+        ]);
     }
 
     #[test]

@@ -9,11 +9,12 @@ mod play;
 
 use std::env;
 use std::fs::File;
-use std::io::{self, Write};
+use std::io::{self, Read, Write};
+use std::os::fd::AsFd;
 use std::process::ExitCode;
 
 use check::Answers;
-use hits::Hits;
+use hits::{Hits, Torn};
 use journal::{is_comment, parse, CallSet, MAX_LINE};
 use lines::LineReader;
 use play::{put_number, Player};
@@ -47,20 +48,20 @@ fn options() -> Result<Options, String> {
     Ok(options)
 }
 
-/// The journal on standard input, the book it is played on, and the counts.
-struct Run {
-    journal: LineReader<io::StdinLock<'static>>,
+/// A journal, the book it is played on, and the counts.
+struct Run<R> {
+    journal: LineReader<R>,
     calls: CallSet,
     player: Player,
     hits: Hits,
     numbers: Vec<u64>,
 }
 
-impl Run {
-    fn new(calls: CallSet) -> Self {
+impl<R: Read> Run<R> {
+    fn new(journal: R, calls: CallSet) -> Self {
         Run {
             // One byte more than the longest call is kept: it shows that a line is too long.
-            journal: LineReader::new(io::stdin().lock(), MAX_LINE + 1),
+            journal: LineReader::new(journal, MAX_LINE + 1),
             calls,
             player: Player::new(),
             hits: Hits::new(),
@@ -70,6 +71,10 @@ impl Run {
 
     /// Plays the line held and adds its answer, if it has one, to the output.
     fn play_line(&mut self, out: &mut Vec<u8>) {
+        if self.journal.torn {
+            self.play_torn_line(out);
+            return;
+        }
         let line = self.journal.line();
         if is_comment(line) {
             return;
@@ -78,28 +83,52 @@ impl Run {
             let answer = self.player.play(call, out);
             self.hits.call(&call, answer);
         } else {
-            out.extend_from_slice(b"? line ");
-            put_number(out, self.journal.number);
-            out.push(b'\n');
+            put_line(out, b"? line ", self.journal.number);
             self.hits.malformed();
         }
     }
 
-    fn play_all(&mut self) -> io::Result<()> {
-        let mut stdout = io::stdout().lock();
-        let mut out = Vec::with_capacity(2 * OUTPUT_BUFFER);
-        while self.journal.advance(|| write_out(&mut stdout, &mut out))? {
-            self.play_line(&mut out);
-            if out.len() >= OUTPUT_BUFFER {
-                write_out(&mut stdout, &mut out)?;
-            }
+    /// A torn line is no call, whatever it says; what it says is only counted.
+    fn play_torn_line(&mut self, out: &mut Vec<u8>) {
+        let line = self.journal.line();
+        let says = if is_comment(line) {
+            Torn::Comment
+        } else if line.len() > MAX_LINE {
+            Torn::TooLong
+        } else if parse(line, &self.calls, &mut self.numbers).is_some() {
+            Torn::Call
+        } else {
+            Torn::NoCall
+        };
+        self.hits.torn(says);
+        if !is_comment(line) {
+            put_line(out, b"? line ", self.journal.number);
         }
-        write_out(&mut stdout, &mut out)
     }
 
-    /// Whether the answers in the file are those of this program, but for a free choice of Look.
-    fn check_all(&mut self, path: &str) -> io::Result<bool> {
-        let mut answers = Answers::new(File::open(path)?);
+    /// Adds the last line, after the whole text was read, played and answered.
+    fn play_end(&mut self, out: &mut Vec<u8>) {
+        let lines = self.journal.number;
+        put_line(out, b"end ", lines);
+        self.hits.end(lines > 0 && !self.journal.torn);
+    }
+
+    fn play_all(&mut self, output: &mut impl Write) -> io::Result<()> {
+        let mut out = Vec::with_capacity(2 * OUTPUT_BUFFER);
+        // The answers so far are written before each read, so that a failed one takes none away.
+        while self.journal.advance(|| write_out(output, &mut out))? {
+            self.play_line(&mut out);
+            if out.len() >= OUTPUT_BUFFER {
+                write_out(output, &mut out)?;
+            }
+        }
+        self.play_end(&mut out);
+        write_out(output, &mut out)
+    }
+
+    /// How the answers first differ from those of this program, but for a free choice of Look.
+    fn check_all(&mut self, answers: impl Read) -> io::Result<Option<String>> {
+        let mut answers = Answers::new(answers);
         let mut expected = Vec::new();
         while self.journal.advance(|| Ok(()))? {
             expected.clear();
@@ -107,27 +136,47 @@ impl Run {
             for line in expected.split_inclusive(|&byte| byte == b'\n') {
                 let given = answers.next_line()?;
                 if given != line && !self.may_answer(given) {
-                    check::report(self.journal.number, self.journal.line(), line, given);
-                    return Ok(false);
+                    return Ok(Some(self.difference(line, given)));
                 }
             }
         }
-        let surplus = answers.next_line()?;
-        if !surplus.is_empty() {
-            check::report(
-                self.journal.number,
-                b"(the end of the journal)",
-                b"",
-                surplus,
-            );
+        self.check_end(&mut answers)
+    }
+
+    /// The line `end` is the last one: nothing stands after it.
+    fn check_end(&mut self, answers: &mut Answers<impl Read>) -> io::Result<Option<String>> {
+        let mut end = Vec::new();
+        self.play_end(&mut end);
+        for line in [&end[..], b""] {
+            let given = answers.next_line()?;
+            if given != line {
+                let number = self.journal.number;
+                return Ok(Some(check::difference_at_end(number, line, given)));
+            }
         }
-        Ok(surplus.is_empty())
+        Ok(None)
     }
 
     /// Whether the line held is a Look that may also be answered as given.
     fn may_answer(&mut self, given: &[u8]) -> bool {
+        if self.journal.torn {
+            return false;
+        }
         let call = parse(self.journal.line(), &self.calls, &mut self.numbers);
         call.is_some_and(|call| check::look_allows(&self.player.book, call, given))
+    }
+
+    fn difference(&self, expected: &[u8], given: &[u8]) -> String {
+        let mut line = self.journal.line().to_vec();
+        if !self.journal.torn {
+            line.push(b'\n');
+        }
+        check::difference(
+            self.journal.number,
+            &check::line_shown(&line),
+            expected,
+            given,
+        )
     }
 
     fn write_hits(&self, path: &str) -> io::Result<()> {
@@ -135,25 +184,44 @@ impl Run {
     }
 }
 
-fn write_out(stdout: &mut impl Write, out: &mut Vec<u8>) -> io::Result<()> {
+/// Adds a line of a text and a number.
+fn put_line(out: &mut Vec<u8>, text: &[u8], number: u64) {
+    out.extend_from_slice(text);
+    put_number(out, number);
+    out.push(b'\n');
+}
+
+fn write_out(output: &mut impl Write, out: &mut Vec<u8>) -> io::Result<()> {
     if !out.is_empty() {
-        stdout.write_all(out)?;
-        stdout.flush()?;
+        output.write_all(out)?;
+        output.flush()?;
         out.clear();
     }
     Ok(())
 }
 
+/// A standard stream as a plain file. The library's own streams take some failures for the end of
+/// the input, or for success, and may write what they hold after a failed write.
+fn plain_file(stream: impl AsFd) -> io::Result<File> {
+    Ok(File::from(stream.as_fd().try_clone_to_owned()?))
+}
+
 fn run(options: &Options) -> io::Result<bool> {
-    let mut run = Run::new(options.calls);
-    let same = match &options.check {
-        Some(path) => run.check_all(path)?,
-        None => run.play_all().map(|()| true)?,
+    let mut run = Run::new(plain_file(io::stdin())?, options.calls);
+    let difference = match &options.check {
+        Some(path) => run.check_all(File::open(path)?)?,
+        None => {
+            run.play_all(&mut plain_file(io::stdout())?)?;
+            None
+        }
     };
     if let Some(path) = &options.hits {
         run.write_hits(path)?;
     }
-    Ok(same)
+    if let Some(text) = &difference {
+        io::stdout().write_all(text.as_bytes())?;
+    }
+    Ok(difference.is_none())
 }
 
 fn main() -> ExitCode {
@@ -165,5 +233,187 @@ fn main() -> ExitCode {
             eprintln!("{message}");
             ExitCode::from(2)
         }
+    }
+}
+
+#[cfg(test)]
+mod tests {
+    use super::*;
+
+    fn run_of(journal: &[u8]) -> Run<&[u8]> {
+        Run::new(journal, CallSet::all())
+    }
+
+    fn answers(journal: &[u8]) -> String {
+        let mut out = Vec::new();
+        run_of(journal).play_all(&mut out).unwrap();
+        String::from_utf8(out).unwrap()
+    }
+
+    fn difference(journal: &[u8], answers: &str) -> Option<String> {
+        run_of(journal).check_all(answers.as_bytes()).unwrap()
+    }
+
+    #[test]
+    fn the_end_counts_every_line() {
+        assert_eq!(answers(b""), "end 0\n");
+        assert_eq!(answers(b"\n"), "end 1\n");
+        assert_eq!(answers(b"#\n\nrules\nx\n"), "0 0\n? line 4\nend 4\n");
+        assert_eq!(answers(b"rules\n#"), "0 0\nend 2\n");
+        assert_eq!(answers(b"rules\n\nx"), "0 0\n? line 3\nend 3\n");
+    }
+
+    #[test]
+    fn a_torn_line_is_no_call() {
+        for line in [&b"rules"[..], b"look 0", b"open 2 1 0", b"o", b" ", b" #"] {
+            assert_eq!(answers(line), "? line 1\nend 1\n", "{line:?}");
+        }
+        let long = b"0".repeat(200_000);
+        assert_eq!(answers(&long), "? line 1\nend 1\n");
+        assert_eq!(answers(&[&b"#"[..], &long].concat()), "end 1\n");
+    }
+
+    #[test]
+    fn a_torn_line_changes_nothing() {
+        let journal = b"open 2 1 0\nenter 0 1 0 50 1000 2\nenter 1 0 1 50 1000 2\ndeliver 0 4";
+        let mut run = run_of(journal);
+        let mut out = Vec::new();
+        run.play_all(&mut out).unwrap();
+        assert_eq!(out, b"0\n0 0 0\n0 1 1\n? line 4\nend 4\n");
+        assert_eq!(run.player.book.status(0), Ok([50, 0, 0, 0, 0, 50]));
+    }
+
+    #[test]
+    fn rules_can_be_left_out() {
+        let mut out = Vec::new();
+        let calls = CallSet::listed("look").unwrap();
+        Run::new(&b"rules\n"[..], calls).play_all(&mut out).unwrap();
+        assert_eq!(out, b"? line 1\nend 1\n");
+    }
+
+    #[test]
+    fn the_kinds_of_torn_lines_are_counted() {
+        let long = b"9".repeat(MAX_LINE + 1);
+        let journals: [(&[u8], &[&str]); 6] = [
+            (b"rules", &["torn call 1", "end 1"]),
+            (b"rules 0", &["torn no-call 1", "end 1"]),
+            (&long, &["torn too-long 1", "end 1"]),
+            (b"# rules", &["torn comment 1", "end 1"]),
+            (b"#\n", &["whole last line 1", "end 1"]),
+            (b"", &["end 1"]),
+        ];
+        for (journal, rows) in journals {
+            let mut run = run_of(journal);
+            run.play_all(&mut Vec::new()).unwrap();
+            let table = run.hits.table(&run.calls, &run.player.kinds);
+            let met = table.lines().filter(|row| !row.ends_with(" 0"));
+            assert_eq!(met.collect::<Vec<_>>(), rows);
+        }
+    }
+
+    #[test]
+    fn own_answers_show_no_difference() {
+        for journal in [
+            &b""[..],
+            b"rules\n",
+            b"rules",
+            b"# x",
+            b"look 0\nlook 32\nx\n",
+        ] {
+            assert_eq!(difference(journal, &answers(journal)), None, "{journal:?}");
+        }
+    }
+
+    #[test]
+    fn the_end_is_compared() {
+        let missing = difference(b"rules\n", "0 0\n").unwrap();
+        assert_eq!(
+            missing,
+            "line 1: (the end of the journal)\nexpected: end 1\ngiven:    (nothing)\n\
+            The last line of the answers is missing.\n"
+        );
+        assert!(difference(b"", "").unwrap().contains("is missing"));
+        assert!(difference(b"rules\n", "0 0\nend 1")
+            .unwrap()
+            .ends_with("given:    end 1 (and no line feed)\n"));
+        for given in ["0 0\nend 0\n", "0 0\nend 2\n", "0 0\nend 1\n\n", "end 1\n"] {
+            assert!(difference(b"rules\n", given).is_some(), "{given:?}");
+        }
+    }
+
+    /// Two obligations that member 0 is late with, so that Look is free to name either.
+    const LATE: &str = "open 2 1 0\nenter 0 1 0 3 1000 2\nenter 1 0 1 3 1000 2\n\
+        enter 0 1 0 4 1000 2\nenter 1 0 1 4 1000 2\nclose 100000 0 1152 1\n";
+
+    #[test]
+    fn a_torn_look_has_no_free_choice() {
+        let journal = format!("{LATE}look 0\nlook 0");
+        let expected = answers(journal.as_bytes());
+        assert!(expected.ends_with("\n0 1\n? line 8\nend 8\n"));
+        let other = expected.replace("\n0 1\n? line 8\n", "\n0 2\n? line 8\n");
+        assert_eq!(difference(journal.as_bytes(), &other), None);
+        let played = expected.replace("? line 8", "0 2");
+        assert!(difference(journal.as_bytes(), &played)
+            .unwrap()
+            .starts_with("line 8: look 0 (and no line feed)\nexpected: ? line 8\n"));
+    }
+
+    /// Gives its bytes, then fails.
+    struct Broken<'a>(&'a [u8]);
+
+    impl Read for Broken<'_> {
+        fn read(&mut self, buffer: &mut [u8]) -> io::Result<usize> {
+            match self.0.read(buffer)? {
+                0 => Err(io::ErrorKind::Other.into()),
+                read => Ok(read),
+            }
+        }
+    }
+
+    #[test]
+    fn after_a_failed_read_the_answers_so_far_are_written() {
+        let mut run = Run::new(Broken(b"rules\nx\nopen 9 1 0"), CallSet::all());
+        let mut out = Vec::new();
+        assert!(run.play_all(&mut out).is_err());
+        assert_eq!(out, b"0 0\n? line 2\n");
+        assert_eq!(run.player.book.today, 2);
+    }
+
+    /// Takes so many bytes, then fails; what is taken is kept.
+    struct Full(usize, Vec<u8>);
+
+    impl Write for Full {
+        fn write(&mut self, bytes: &[u8]) -> io::Result<usize> {
+            let room = self.0 - self.1.len();
+            if room == 0 {
+                return Err(io::ErrorKind::Other.into());
+            }
+            let taken = bytes.len().min(room);
+            self.1.extend_from_slice(&bytes[..taken]);
+            Ok(taken)
+        }
+
+        fn flush(&mut self) -> io::Result<()> {
+            Ok(())
+        }
+    }
+
+    #[test]
+    fn after_a_failed_write_nothing_is_played_or_written() {
+        // The first block of the journal is answered by more than one block of answers.
+        let journal = "month 0 4096 18446744073709551615\n".repeat(10) + "open 9 1 0\n";
+        let all = answers(journal.as_bytes());
+        for room in [0, 1, 70_000] {
+            let (mut run, mut full) = (run_of(journal.as_bytes()), Full(room, Vec::new()));
+            assert!(run.play_all(&mut full).is_err());
+            assert_eq!(full.1, all.as_bytes()[..room]);
+            assert_eq!(run.player.book.today, 2);
+        }
+        // Room for all but the line feed of the last line.
+        let mut full = Full(all.len() - 1, Vec::new());
+        assert!(run_of(journal.as_bytes()).play_all(&mut full).is_err());
+        let mut fits = Full(all.len(), Vec::new());
+        run_of(journal.as_bytes()).play_all(&mut fits).unwrap();
+        assert_eq!(fits.1, all.as_bytes());
     }
 }

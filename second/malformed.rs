@@ -2,7 +2,7 @@
 
 use std::io::{self, Write};
 
-use crate::journal::{MAX_LINE, NAMES};
+use crate::journal::{MAX_LINE, NAMES, RULES};
 use crate::Generator;
 
 const UNKNOWN: [&str; 6] = ["", "x", "?", "0", "entry", "openclose"];
@@ -26,6 +26,37 @@ const NO_NUMBERS: [&str; 18] = [
     "1\t",
     "1\r",
 ];
+/// `rules` takes no argument and no blank.
+const NO_RULES: [&str; 14] = [
+    "rules 0", "rules 0", "rules 1", "rules ", "rules ", "rules  0", " rules", "rules\r",
+    "rules\t", "rules\0", "Rules", "RULES", "rule", "rules#",
+];
+/// Calls of later editions, which the base does not know.
+const LATER: [&str; 9] = [
+    "again 1152 0",
+    "target 2000 2000 6 0",
+    "rate 2 10",
+    "rate 2 10 10",
+    "close 100000 1152 0",
+    "cause 0 1",
+    "pair 0 1",
+    "report 100 0",
+    "defer 0 1",
+];
+/// What is neither a call nor a comment, though some of it stands among the answers.
+const SCRAWLS: [&str; 11] = [
+    " ",
+    "  ",
+    " #",
+    " # a remark",
+    "\r",
+    "\t",
+    "\0",
+    "-",
+    "? line 1",
+    "end 1",
+    "  kept 0",
+];
 
 impl<W: Write> Generator<W> {
     pub fn comment(&mut self) -> io::Result<()> {
@@ -45,84 +76,67 @@ impl<W: Write> Generator<W> {
         .map(|_| ())
     }
 
-    /// The words of a plausible call, if any call may be written.
+    /// The words of a plausible call on the book, if any may be written.
     fn good_words(&mut self) -> Option<Vec<String>> {
-        let known: Vec<&str> = NAMES
-            .into_iter()
+        let known: Vec<&str> = NAMES[..RULES]
+            .iter()
+            .copied()
             .filter(|name| self.may_call(name))
             .collect();
         if known.is_empty() {
             return None;
         }
         let name = self.random.pick(&known);
-        let arguments = self.arguments(name);
-        let numbers = arguments.iter().map(u64::to_string);
-        Some(std::iter::once(name.to_string()).chain(numbers).collect())
+        Some(self.words_of(name))
     }
 
-    /// A plausible call with something wrong in its writing. It is no call, except that leading
-    /// zeros are right, and that a line of 65,536 bytes is not too long.
+    /// The words of a plausible call of the name.
+    pub fn words_of(&mut self, name: &str) -> Vec<String> {
+        let arguments = self.arguments(name);
+        let numbers = arguments.iter().map(u64::to_string);
+        std::iter::once(name.to_string()).chain(numbers).collect()
+    }
+
+    /// A line with something wrong in its writing. It is no call, except that leading zeros are
+    /// right, and that a line of 65,536 bytes is not too long.
     pub fn malformed_line(&mut self) -> io::Result<()> {
-        let Some(mut words) = self.good_words() else {
-            return Ok(());
+        let line = match (self.random.below(70), self.good_words()) {
+            (0, Some(words)) => self.long_line(words),
+            (1..=10, _) => self.random.pick(&NO_RULES).to_string(),
+            (11..=18, _) => self.random.pick(&LATER).to_string(),
+            (19..=22, _) => self.random.pick(&SCRAWLS).to_string(),
+            (_, Some(words)) => self.slip(words),
+            _ => return Ok(()),
         };
-        let argument = 1 + self.random.place(words.len() - 1);
-        let mut line = match self.random.below(16) {
-            0 => {
-                words[0] = self.unknown_name(&words[0]);
-                words.join(" ")
-            }
-            1 => {
-                words.push(self.random.pick(&["0", "1", "32"]).to_string());
-                words.join(" ")
-            }
-            2 => {
-                words.remove(argument);
-                words.join(" ")
-            }
-            3 => {
-                words.truncate(argument);
-                words.join(" ")
-            }
-            4 => words.join("  "),
-            5 => format!("{} ", words.join(" ")),
-            6 => format!(" {}", words.join(" ")),
-            7 => words.join("\t"),
-            8 => format!("{}\r", words.join(" ")),
-            9..=11 => {
-                words[argument] = self.random.pick(&NO_NUMBERS).to_string();
-                words.join(" ")
-            }
-            12 => {
-                words[argument].insert_str(0, &"0".repeat(self.random.place(60)));
-                words.join(" ")
-            }
-            13 => self
-                .random
-                .pick(&[
-                    " ",
-                    "  ",
-                    " #",
-                    " # a remark",
-                    "\r",
-                    "\t",
-                    "\0",
-                    "-",
-                    "? line 1",
-                ])
-                .to_string(),
-            14 => self.stray_byte(&words.join(" ")),
-            _ => words.join(self.random.pick(&["", ",", " \t", "\0", "\u{a0}"])),
-        };
-        if self.random.below(70) == 0 {
-            line = self.long_line(words);
-        }
         // With few calls listed, a slip must not write one that isn't.
         let name = line.split(' ').next().unwrap_or_default();
         if NAMES.contains(&name) && !self.may_call(name) {
             return Ok(());
         }
         self.line(line.as_bytes()).map(|_| ())
+    }
+
+    /// A call with a slip in one of its words or between them.
+    fn slip(&mut self, mut words: Vec<String>) -> String {
+        let argument = 1 + self.random.place(words.len() - 1);
+        match self.random.below(15) {
+            0 => words[0] = self.unknown_name(&words[0]),
+            1 => words.push(self.random.pick(&["0", "1", "32"]).to_string()),
+            2 => {
+                words.remove(argument);
+            }
+            3 => words.truncate(argument),
+            4 => return words.join("  "),
+            5 => return format!("{} ", words.join(" ")),
+            6 => return format!(" {}", words.join(" ")),
+            7 => return words.join("\t"),
+            8 => return format!("{}\r", words.join(" ")),
+            9..=11 => words[argument] = self.random.pick(&NO_NUMBERS).to_string(),
+            12 => words[argument].insert_str(0, &"0".repeat(self.random.place(60))),
+            13 => return self.stray_byte(&words.join(" ")),
+            _ => return words.join(self.random.pick(&["", ",", " \t", "\0", "\u{a0}"])),
+        }
+        words.join(" ")
     }
 
     /// A name that is no call's, mostly one that looks like it.

@@ -3,6 +3,9 @@
 use crate::book::{Book, Refusal, LINE_WORDS};
 use crate::journal::Call;
 
+/// The latest change request in the rules; 0 is the base.
+const EDITION: u64 = 0;
+
 /// A book and the lists that are lent to its calls.
 pub struct Player {
     pub book: Book,
@@ -81,6 +84,7 @@ impl Player {
             Call::Status { obligation } => put_results(out, book.status(obligation)),
             Call::Account { member } => put_account(out, book.account(member)),
             Call::Look { member } => put_results(out, book.look(member).map(|found| [found])),
+            Call::Rules => put_results(out, Ok([EDITION])),
         }
     }
 
@@ -213,6 +217,28 @@ mod tests {
     fn a_refused_open_ends_the_book_before_it() {
         let journal = "open 9 1 0\nenter 0 1 0 3 1000 9\nopen 9 1 1 9\nenter 0 1 0 3 1000 2\n";
         assert_eq!(answers(journal), "0\n0 0 0\n11\n0 0 0\n");
+    }
+
+    #[test]
+    fn rules_answers_the_edition_and_changes_nothing() {
+        let mut player = Player::new();
+        for line in ["open 9 1 0", "enter 0 1 0 3 1000 9"] {
+            let mut numbers = Vec::new();
+            let call = parse(line.as_bytes(), &CallSet::all(), &mut numbers);
+            player.play(call.expect("a call"), &mut Vec::new());
+        }
+        let (before, mut out) = (player.book.clone(), Vec::new());
+        assert_eq!(player.play(Call::Rules, &mut out), 0);
+        assert_eq!(out, b"0 0\n");
+        assert_eq!(player.book, before);
+    }
+
+    #[test]
+    fn rules_may_stand_before_the_first_open() {
+        assert_eq!(
+            answers("rules\nenter 0 1 0 3 1000 2\nrules\n"),
+            "0 0\n0 0 0\n0 0\n"
+        );
     }
 
     #[test]

@@ -558,15 +558,16 @@ impl<W: Write> Generator<W> {
         Ok(())
     }
 
-    /// Lines that are no calls, one after another.
+    /// Lines that are no calls, one after another, or none on the book.
     fn scrawl(&mut self) -> io::Result<()> {
         for _ in 0..self.random.between(5, 40) {
             if self.is_done() {
                 return Ok(());
             }
-            match self.random.below(8) {
+            match self.random.below(9) {
                 0 => self.comment()?,
                 1 => self.reading()?,
+                2 => self.ask_rules()?,
                 _ => self.malformed_line()?,
             }
         }

@@ -6,7 +6,9 @@ usage: shrink.py JOURNAL PROGRAM SECOND [--calls LIST]
 PROGRAM and SECOND are commands (with arguments, if they are quoted). A journal differs if
 `SECOND --check` does not accept what PROGRAM answers to it; a program that fails or hangs
 differs too. The shortest journal found goes to standard output, the difference that it
-shows to standard error.
+shows to standard error. A last line that lacks its line feed keeps it lacking where the
+difference needs that; else the line feed is put there. The journal found may be empty, as
+an empty text has an answer too.
 """
 
 import argparse
@@ -83,7 +85,7 @@ def remove_chunks(lines, comparison):
         while start > 0:
             end, start = start, max(0, start - size)
             candidate = lines[:start] + lines[end:]
-            if candidate and comparison.difference(candidate):
+            if comparison.difference(candidate):
                 lines, removed = candidate, True
         if size > 1:
             size = (size + 1) // 2
@@ -91,12 +93,22 @@ def remove_chunks(lines, comparison):
             return lines
 
 
+def mend_last_line(lines, comparison):
+    """Tries a torn last line with its line feed: a whole line is plainer."""
+    if lines and not lines[-1].endswith(b"\n"):
+        mended = lines[:-1] + [lines[-1] + b"\n"]
+        if comparison.difference(mended):
+            return mended
+    return lines
+
+
 def shrink(lines, comparison):
     while True:
-        before = len(lines)
+        before = lines
         lines = cut_after_difference(lines, comparison)
         lines = remove_chunks(lines, comparison)
-        if len(lines) == before:
+        lines = mend_last_line(lines, comparison)
+        if lines == before:
             return lines
 
 
@@ -122,7 +134,7 @@ def main():
 
 
 def split_lines(journal):
-    """The lines with their line feeds; no other byte ends a line."""
+    """The lines with their line feeds, which a torn last one lacks; no other byte ends a line."""
     lines = [line + b"\n" for line in journal.split(b"\n")]
     lines[-1] = lines[-1][:-1]
     return [line for line in lines if line]
