@@ -52,6 +52,7 @@ pub fn start() -> Flow
 // reason on standard error.
 pub fn write_out(out: &[u8], end: usize) -> bool
     requires { ⌜ end ≤ length (now out) ⌝ }
+    ensures { λ _. ⌜ now (out .exit) ≡ now (out .entry) ⌝ }
 {
     if io::write_all(STDOUT_FILENO, &out[..end]) {
         return true;

@@ -3,6 +3,7 @@
 // With an argument on its command line it says what it is and plays nothing.
 use answers::Answer;
 use flow::Course;
+use libc::STDOUT_FILENO;
 use reading::Line;
 use reading::Name;
 ghost use mathlib.Core.Path.{_≡_};
@@ -11,7 +12,6 @@ ghost use lib.ListN.{length};
 ghost use Rattle.settle.specs.Turns.{Buffers, begins, turnsLeft};
 ghost use Rattle.settle.specs.Ending.{PlaysIn};
 
-mod about;
 mod calls;
 mod flow;
 
@@ -117,9 +117,32 @@ fn play() {
     flow::write_out(&out, end);
 }
 
+// Writes a piece of text, and answers whether it was written.
+fn say(text: &[u8]) -> bool {
+    io::write_all(STDOUT_FILENO, text)
+}
+
+// Says what the program is, where its format is described, what it was proved with, and which edition of the rules it
+// follows. `.ci/edges` compares the kit that is named here with the kit of the toolchain.
+fn tell_about() {
+    let said = say(
+        b"settle plays a journal of the settlement-discipline book of one bond: it reads\n",
+    )
+        && say(b"calls from standard input and writes their answers to standard output.\n")
+        && say(b"format: docs/JOURNAL.md; in the operations room: docs/OPERATIONS.md\n")
+        && say(b"proved with: rattle-kit-5b logic 064da1ca440f63e7\n")
+        && say(b"rules: edition ")
+        && io::print_decimal(STDOUT_FILENO, calls::EDITION)
+        && say(b"\n");
+    if said {
+        return;
+    }
+    os::fail(b"settle: this text could not be written");
+}
+
 fn main() {
     if 1 < os::arg_count() {
-        about::tell();
+        tell_about();
         return;
     }
     play();
