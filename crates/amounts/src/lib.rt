@@ -6,6 +6,36 @@ ghost use Prim.Native.Nat.{_+_, _-_, _*_, _/_, _≤_, _<_, _^_};
 ghost use Rattle.amounts.specs.Amounts.{mostQuantity, mostAmount, mostClosePrice, mostOfferPrice, mostRate, value, penalty, compensation, dueFor, cash, charge, tolerance, amountsMatch, aboveCap};
 ghost use Rattle.amounts.specs.Quotients.{rounded, divided, Part};
 
+// The limits of refusals 2 and 3. Each has its definition in specs/ under the same name, as `mostQuantity`.
+pub const MOST_QUANTITY: u64 = 100_000;
+
+pub const MOST_AMOUNT: u64 = 20_000_000_000;
+
+pub const MOST_CLOSE_PRICE: u64 = 150_000;
+
+pub const MOST_OFFER_PRICE: u64 = 200_000;
+
+pub const MOST_RATE: u64 = 100;
+
+// A rate is in millionths of a value.
+const RATE_PARTS: u64 = 1_000_000;
+
+// Compensation is a tenth of a value.
+const COMPENSATION_PARTS: u64 = 10;
+
+// Delivering amounts up to this one have the narrow tolerance, and larger ones the wide one.
+const NARROW_UP_TO: u64 = 10_000_000;
+
+const NARROW_TOLERANCE: u64 = 200;
+
+const WIDE_TOLERANCE: u64 = 2_500;
+
+// The cap is 108 hundredths of the price of the Close at age = grace.
+const CAP_HUNDREDTHS: u64 = 108;
+
+// A quotient of products is worked out digit by digit in this base.
+const BASE: u64 = 32_768;
+
 // A quotient and its remainder.
 pub struct Divided {
     pub quotient: u64,
@@ -33,7 +63,7 @@ pub fn penalty_of(q: u64, price: u64, rate: u64) -> u64
     requires { ⌜ (q ≤ mostQuantity) × (price ≤ mostClosePrice) × (rate ≤ mostRate) ⌝ }
     ensures { λ r. ⌜ r ≡ penalty q price rate ⌝ }
 {
-    rounded_quotient(value_of(q, price) * rate, 1_000_000)
+    rounded_quotient(value_of(q, price) * rate, RATE_PARTS)
 }
 
 // Returns the compensation for q units.
@@ -41,7 +71,7 @@ pub fn compensation_of(q: u64, price: u64) -> u64
     requires { ⌜ (q ≤ mostQuantity) × (price ≤ mostClosePrice) ⌝ }
     ensures { λ r. ⌜ r ≡ compensation q price ⌝ }
 {
-    rounded_quotient(value_of(q, price), 10)
+    rounded_quotient(value_of(q, price), COMPENSATION_PARTS)
 }
 
 // Returns what is due of an amount once t of q units are settled.
@@ -73,7 +103,11 @@ pub fn charge_for(q: u64, price: u64, cash: u64) -> u64
 pub fn tolerance_of(delivering: u64) -> u64
     ensures { λ r. ⌜ r ≡ tolerance delivering ⌝ }
 {
-    if delivering <= 10_000_000 { 200 } else { 2_500 }
+    if delivering <= NARROW_UP_TO {
+        NARROW_TOLERANCE
+    } else {
+        WIDE_TOLERANCE
+    }
 }
 
 // Says whether two amounts are within the tolerance.
@@ -92,7 +126,7 @@ pub fn above_cap(price: u64, grace_price: u64) -> bool
     requires { ⌜ (price ≤ mostOfferPrice) × («grace_price» ≤ mostClosePrice) ⌝ }
     ensures { λ r. ⌜ r ≡ aboveCap price «grace_price» ⌝ }
 {
-    108 * grace_price < 100 * price
+    CAP_HUNDREDTHS * grace_price < 100 * price
 }
 
 // Returns the quotient and the remainder of part × factor by whole. The product may exceed 64 bits. So the function
@@ -107,10 +141,10 @@ pub fn product_divided(part: u64, factor: u64, whole: u64) -> Divided
             remainder: 0,
         };
     }
-    let front = product_divided(part, factor / 32_768, whole);
-    let rest = front.remainder * 32_768 + part * (factor % 32_768);
+    let front = product_divided(part, factor / BASE, whole);
+    let rest = front.remainder * BASE + part * (factor % BASE);
     Divided {
-        quotient: front.quotient * 32_768 + rest / whole,
+        quotient: front.quotient * BASE + rest / whole,
         remainder: rest % whole,
     }
 }

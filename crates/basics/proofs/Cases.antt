@@ -5,9 +5,9 @@ use mathlib.Core.Path.{_≡_, refl, sym, _∙_}
 use mathlib.Core.Bool.{Bool, true, false, _&&_, _||_}
 use mathlib.Core.Logic.{_⊎_, inl, inr}
 use mathlib.Core.List.{List, map}
-use lib.Dec.{ltb}
+use lib.Dec.{ltb, eqb}
 use lib.ListN.{length, length-map}
-use borrow.Author.Tests.{ltb-true, ltb-false}
+use borrow.Author.Tests.{ltb-true, ltb-false, lt-ltb, le-ltb, eq-eqb, ne-eqb}
 use Rattle.basics.specs.Choice.{pick}
 
 -- a test does not both fail and hold
@@ -34,6 +34,24 @@ below-or-not a b = by (ltb a b) refl
     by : (t : Bool) → ltb a b ≡ t → (a < b) ⊎ (b ≤ a)
     by true e = inl (ltb-true a b e)
     by false e = inr (ltb-false a b e)
+
+-- A comparison of two numbers, in which another test decides where they are the same, has three cases.
+pub lesser-case : (P : Bool → Type 0) (a b : ℕ) (t : Bool) → (a < b → P true) → (b < a → P false) → (a ≡ b → P t)
+    → P (pick (ltb a b) true (pick (ltb b a) false t))
+lesser-case P a b t less more same = by (ltb a b) (ltb b a) refl refl
+  where
+    by : (u v : Bool) → ltb a b ≡ u → ltb b a ≡ v → P (pick u true (pick v false t))
+    by true v e f = less (ltb-true a b e)
+    by false true e f = more (ltb-true b a f)
+    by false false e f = same (omega (arith, ltb-false a b e, ltb-false b a f))
+
+-- the same comparison as code has it
+pub lesser-or-same : (a b : ℕ) (t : Bool) → pick (ltb a b) true (pick (ltb b a) false t) ≡ (ltb a b || (eqb a b && t))
+lesser-or-same a b t =
+    lesser-case (λ u. u ≡ (ltb a b || (eqb a b && t))) a b t
+    (λ l. rw (lt-ltb a b l))
+    (λ l. rw (le-ltb a b (omega arith), ne-eqb a b (λ e. omega arith)))
+    (λ e. rw (le-ltb a b (omega arith), eq-eqb a b e))
 
 -- The length of an array of structs. The checker states it of the array as it lies in memory.
 pub length-mapped : {X Y : Type 0} (f : X → Y) (l : List X) (n : ℕ) → length (map f l) ≡ n → length l ≡ n

@@ -1,5 +1,5 @@
 -- The list of closed days, day by day.
-use Prim.Native.Nat.{ℕ, _+_, _≤_, _<_}
+use Prim.Native.Nat.{ℕ, _+_, _≤_, _<_, min}
 use native.Mathlib.Omega.{arith}
 use native.Mathlib.Numerals.{add-one}
 use mathlib.Core.Path.{_≡_, refl, sym, ap, _∙_}
@@ -45,19 +45,20 @@ stored-all ds i days h k e =
     let l : i ≡ length ds = omega arith in
     rw (e, take-all i ds k) (ap (λ (n : ℕ). record { days = padded mostClosed (day 0) (map day ds); count = n }) l)
 
+-- the closed days as a loop holds them
+abbrev pub held : List Day → ℕ → ClosedDays
+held days count = record { days = days; count = count }
+
 -- ---- the closed days from place i on
-module _ (closed : ClosedDays) (size : length (closed .days) ≡ 64) where
-  pub listed-more : (i : ℕ) → i < 64 → i < closed .count → drop i (listed closed) ≡ getD (closed .days) i (day 0) ∷ drop (i + 1) (listed closed)
+module _ (closed : ClosedDays) (size : length (closed .days) ≡ mostClosed) where
+  pub listed-more : (i : ℕ) → i < mostClosed → i < closed .count → drop i (listed closed) ≡ getD (closed .days) i (day 0) ∷ drop (i + 1) (listed closed)
   unfolding listed
   listed-more i h k =
       let l = length-take (closed .count) (closed .days) in
       rw (add-one i, drop-cons (take (closed .count) (closed .days)) i (day 0) (omega arith), getD-take (closed .count) (closed .days) i (day 0) k)
 
-  pub listed-past : (i : ℕ) → closed .count ≤ i → drop i (listed closed) ≡ []
-  unfolding listed
-  listed-past i h = drop-of-length-le (take (closed .count) (closed .days)) {i = i} (omega (arith, length-take (closed .count) (closed .days)))
-
-  pub listed-end : (i : ℕ) → 64 ≤ i → drop i (listed closed) ≡ []
+  -- behind the last closed day, or behind the last place, there are none
+  pub listed-end : (i : ℕ) → min (closed .count) mostClosed ≤ i → drop i (listed closed) ≡ []
   unfolding listed
   listed-end i h = drop-of-length-le (take (closed .count) (closed .days)) {i = i} (omega (arith, length-take (closed .count) (closed .days)))
 

@@ -6,6 +6,12 @@ ghost use lib.ListN.{length};
 ghost use Rattle.calendar.specs.Closed.{mostClosed, risesFrom, closedRefused, closedDays, listed, Rises, among};
 ghost use Rattle.calendar.specs.Days.{clearing, nextAfter, nthAfter, ageAt, weekdaysTo, takesAway, closedBetween};
 
+// The last day of the calendar; `lastDay` in specs/.
+pub const LAST_DAY: u64 = 65_535;
+
+// The most closed days of a book; `mostClosed` in specs/.
+pub const MOST_CLOSED: usize = 64;
+
 // A calendar day by its number; day 0 is Saturday 1 January 2000.
 pub struct Day(pub u64);
 
@@ -20,11 +26,9 @@ pub enum NextDay {
 
 // The book's closed days: the first `count` places of `days`. The places behind them are free.
 pub struct ClosedDays {
-    pub days: [Day; 64],
+    pub days: [Day; MOST_CLOSED],
     pub count: usize,
 }
-
-const LAST_DAY: u64 = 65_535;
 
 // Whether the days of a list rise strictly and end by the last day.
 fn is_rising(days: &[u64]) -> bool
@@ -34,10 +38,7 @@ fn is_rising(days: &[u64]) -> bool
     let mut i = 0;
     while i < days.len() {
         let day = days[i];
-        if day < least {
-            return false;
-        }
-        if LAST_DAY < day {
+        if day < least || LAST_DAY < day {
             return false;
         }
         least = day + 1;
@@ -51,10 +52,7 @@ pub fn refuses_closed(days: &[u64]) -> bool
     ensures { λ r. ⌜ r ≡ closedRefused (now (days .entry)) ⌝ }
     ensures { λ r. ⌜ now (days .exit) ≡ now (days .entry) ⌝ }
 {
-    if 64 < days.len() {
-        return true;
-    }
-    if is_rising(days) { false } else { true }
+    MOST_CLOSED < days.len() || !is_rising(days)
 }
 
 // How many weekdays there are up to a day, as if no day were closed.
@@ -73,13 +71,7 @@ fn weekdays_to(day: Day) -> u64
 fn takes_away(closed: Day, after: Day, to: Day) -> bool
     ensures { λ r. ⌜ r ≡ takesAway closed after to ⌝ }
 {
-    if closed.0 <= after.0 {
-        return false;
-    }
-    if to.0 < closed.0 {
-        return false;
-    }
-    2 <= closed.0 % 7
+    after.0 < closed.0 && closed.0 <= to.0 && 2 <= closed.0 % 7
 }
 
 impl ClosedDays {
@@ -89,7 +81,7 @@ impl ClosedDays {
         ensures { λ r. ⌜ r ≡ closedDays (now (list .entry)) ⌝ }
         ensures { λ r. ⌜ now (list .exit) ≡ now (list .entry) ⌝ }
     {
-        let mut days = [Day(0); 64];
+        let mut days = [Day(0); MOST_CLOSED];
         let mut i = 0;
         while i < list.len() {
             days[i] = Day(list[i]);
@@ -108,10 +100,7 @@ impl ClosedDays {
         let days = self.days;
         let count = self.count;
         let mut i = 0;
-        while i < 64 {
-            if count <= i {
-                return false;
-            }
+        while i < MOST_CLOSED && i < count {
             let closed = days[i];
             if closed.0 == day.0 {
                 return true;
@@ -125,10 +114,7 @@ impl ClosedDays {
     pub fn is_clearing(self, day: Day) -> bool
         ensures { λ r. ⌜ r ≡ clearing (listed self) day ⌝ }
     {
-        if day.0 % 7 < 2 {
-            return false;
-        }
-        if self.has(day) { false } else { true }
+        2 <= day.0 % 7 && !self.has(day)
     }
 
     // The next clearing day after a day.
@@ -167,10 +153,7 @@ impl ClosedDays {
         let count = self.count;
         let mut n: u64 = 0;
         let mut i = 0;
-        while i < 64 {
-            if count <= i {
-                return n;
-            }
+        while i < MOST_CLOSED && i < count {
             if takes_away(days[i], after, to) {
                 n += 1;
             }

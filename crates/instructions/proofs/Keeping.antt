@@ -16,7 +16,7 @@ use Rattle.basics.proofs.Sums.{total-append, total-set}
 use Rattle.instructions.specs.declared.LegState.{LegState}
 use Rattle.instructions.specs.declared.Leg.{Leg}
 use Rattle.instructions.specs.declared.Legs.{Legs}
-use Rattle.instructions.specs.Legs.{isWaiting, noLeg, noLegs, entered, inState, legAt, withState, withLeg, waitingOne, waiting, SoundLeg, ValidLegs}
+use Rattle.instructions.specs.Legs.{mostLegs, isWaiting, noLeg, noLegs, entered, inState, legAt, withState, withLeg, waitingOne, waiting, SoundLeg, ValidLegs}
 
 -- no legs
 pub none-valid : ValidLegs noLegs
@@ -28,7 +28,7 @@ none-waiting = refl
 
 module _ (s : Legs) (v : ValidLegs s) where
   -- ---- one leg more
-  module _ (l : Leg) (room : s .count < 128) where
+  module _ (l : Leg) (room : s .count < mostLegs) where
     pub entered-with : entered (withLeg l s) ≡ entered s ++ l ∷ []
     entered-with = rw (add-one (s .count)) (take-suc-set (s .rows) (s .count) l (omega (arith, v .size)))
 

@@ -16,11 +16,11 @@ use Rattle.amounts.specs.Amounts.{amountsMatch}
 use Rattle.instructions.specs.declared.Leg.{Leg}
 use Rattle.instructions.specs.declared.Legs.{Legs}
 use Rattle.instructions.specs.declared.Fit.the-variants.{With, Nobody}
-use Rattle.instructions.specs.Legs.{isWaiting, noLeg, entered, legAt}
+use Rattle.instructions.specs.Legs.{mostLegs, isWaiting, noLeg, entered, legAt}
 use Rattle.instructions.specs.Match.{delivering, receiving, membersCross, sameBusiness, fits, firstFit, lowestFit}
 
 -- ---- the search, leg by leg
-module _ (s : Legs) (new : Leg) (size : length (s .rows) ≡ 128) (few : s .count ≤ 128) where
+module _ (s : Legs) (new : Leg) (size : length (s .rows) ≡ mostLegs) (few : s .count ≤ mostLegs) where
   -- the legs from leg i on
   pub search-more : (i : ℕ) → i < s .count →
       firstFit new i (drop i (entered s)) ≡ pick (fits (legAt s i) new) (With i) (firstFit new (i + 1) (drop (i + 1) (entered s)))

@@ -26,9 +26,13 @@ isWaiting (Matched n) = false
 abbrev pub noLeg : Leg
 noLeg = record { member = 0; other = 0; side = 0; quantity = 0; amount = 0; day = day 0; state = Withdrawn }
 
--- E2, Enter, and O5, Open: a book takes 128 legs in its life; a fresh one has none
+-- E2, Enter: the most legs that a book takes in its life
+abbrev pub mostLegs : ℕ
+mostLegs = 128
+
+-- E2, Enter, and O5, Open: a fresh book has no legs
 abbrev pub noLegs : Legs
-noLegs = record { rows = replicate 128 noLeg; count = 0 }
+noLegs = record { rows = replicate mostLegs noLeg; count = 0 }
 
 -- E2, Enter: the legs entered so far, numbered from 0
 abbrev pub entered : Legs → List Leg
@@ -77,6 +81,6 @@ pub record SoundLeg (l : Leg) : Type 0 where
 
 -- what holds of the legs of every book
 pub record ValidLegs (s : Legs) : Type 0 where
-  pub size : length (s .rows) ≡ 128
-  pub few : s .count ≤ 128
+  pub size : length (s .rows) ≡ mostLegs
+  pub few : s .count ≤ mostLegs
   pub sound : Every SoundLeg (entered s)

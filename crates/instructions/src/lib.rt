@@ -2,8 +2,11 @@
 use calendar::Day;
 ghost use mathlib.Core.Path.{_≡_};
 ghost use Prim.Native.Nat.{_≤_, _<_};
-ghost use Rattle.instructions.specs.Legs.{isWaiting, noLegs, inState, fetchedLeg, withState, withLeg};
+ghost use Rattle.instructions.specs.Legs.{mostLegs, isWaiting, noLegs, inState, fetchedLeg, withState, withLeg};
 ghost use Rattle.instructions.specs.Match.{delivering, receiving, membersCross, sameBusiness, fits, lowestFit};
+
+// The most legs of a book; `mostLegs` in specs/.
+pub const MOST_LEGS: usize = 128;
 
 // What has become of a leg. A matched leg names its obligation. Withdrawn stands first, because a place that no leg has
 // taken holds it.
@@ -26,7 +29,7 @@ pub struct Leg {
 
 // The legs that were entered, numbered from 0: the first count rows.
 pub struct Legs {
-    pub rows: [Leg; 128],
+    pub rows: [Leg; MOST_LEGS],
     pub count: usize,
 }
 
@@ -83,22 +86,14 @@ impl Leg {
     fn members_cross(self, new: Leg) -> bool
         ensures { λ r. ⌜ r ≡ membersCross self new ⌝ }
     {
-        if self.member == new.other {
-            return self.other == new.member;
-        }
-        false
+        self.member == new.other && self.other == new.member
     }
 
     // Whether two legs have the same quantity and settlement day.
     fn same_business(self, new: Leg) -> bool
         ensures { λ r. ⌜ r ≡ sameBusiness self new ⌝ }
     {
-        let day = self.day;
-        let new_day = new.day;
-        if self.quantity == new.quantity {
-            return day.0 == new_day.0;
-        }
-        false
+        self.quantity == new.quantity && self.day.0 == new.day.0
     }
 
     // Whether a leg is one that a new leg matches.
@@ -106,19 +101,11 @@ impl Leg {
         ensures { λ r. ⌜ r ≡ fits self new ⌝ }
     {
         let state = self.state;
-        if is_waiting(state) {} else {
-            return false;
-        }
-        if self.side == new.side {
-            return false;
-        }
-        if self.members_cross(new) {} else {
-            return false;
-        }
-        if self.same_business(new) {} else {
-            return false;
-        }
-        amounts::amounts_match(new.delivering(self).amount, new.receiving(self).amount)
+        is_waiting(state)
+            && self.side != new.side
+            && self.members_cross(new)
+            && self.same_business(new)
+            && amounts::amounts_match(new.delivering(self).amount, new.receiving(self).amount)
     }
 
     // The same leg in another state.
@@ -144,14 +131,14 @@ impl Legs {
         ensures { λ r. ⌜ r ≡ noLegs ⌝ }
     {
         Legs {
-            rows: [NO_LEG; 128],
+            rows: [NO_LEG; MOST_LEGS],
             count: 0,
         }
     }
 
     // Finds the leg with a number.
     pub fn fetch(self, number: u64) -> FetchedLeg
-        requires { ⌜ self .count ≤ 128 ⌝ }
+        requires { ⌜ self .count ≤ mostLegs ⌝ }
         ensures { λ r. ⌜ r ≡ fetchedLeg self number ⌝ }
     {
         let count = self.count;
@@ -164,7 +151,7 @@ impl Legs {
 
     // Puts the leg with a number into another state.
     pub fn set_state(mut self, number: u64, state: LegState) -> Legs
-        requires { ⌜ number < 128 ⌝ }
+        requires { ⌜ number < mostLegs ⌝ }
         ensures { λ r. ⌜ r ≡ withState number state self ⌝ }
     {
         let i = number as usize;
@@ -176,7 +163,7 @@ impl Legs {
 
     // Adds a leg, which gets the next number.
     pub fn add(mut self, leg: Leg) -> Legs
-        requires { ⌜ self .count < 128 ⌝ }
+        requires { ⌜ self .count < mostLegs ⌝ }
         ensures { λ r. ⌜ r ≡ withLeg leg self ⌝ }
     {
         let i = self.count;
@@ -187,7 +174,7 @@ impl Legs {
 
     // Finds the lowest leg that a new one matches.
     pub fn lowest_fit(self, new: Leg) -> Fit
-        requires { ⌜ self .count ≤ 128 ⌝ }
+        requires { ⌜ self .count ≤ mostLegs ⌝ }
         ensures { λ r. ⌜ r ≡ lowestFit self new ⌝ }
     {
         let count = self.count;

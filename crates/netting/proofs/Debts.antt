@@ -10,7 +10,7 @@ use lib.ListN.{length, getD, length-map}
 use lib.Seq.{ext-getD}
 use Rattle.basics.proofs.Sums.{sum-most}
 use Rattle.basics.specs.Lists.{total, sum}
-use Rattle.netting.specs.Accounts.{claim, owed, claims, balance, mostAccount, Bounded}
+use Rattle.netting.specs.Accounts.{memberCount, claim, owed, claims, balance, mostAccount, Bounded}
 use Rattle.netting.proofs.Signed.{claim-most}
 
 -- the balance plus the sum owed is the sum claimed
@@ -63,7 +63,7 @@ pub claims-length : (a : List ℤ) → length (claims a) ≡ length a
 claims-length a = length-map a claim
 
 -- the claims of 32 bounded accounts add up to at most 2 ^ 48
-pub claims-small : (a : List ℤ) → length a ≡ 32 → Bounded a → sum (claims a) ≤ 2 ^ 48
+pub claims-small : (a : List ℤ) → length a ≡ memberCount → Bounded a → sum (claims a) ≤ 2 ^ 48
 claims-small a members small =
     let s = sum-most (claims a) mostAccount
     (λ k l. let e = claim-at a k in let f = claim-most (getD a k (pos 0)) in let g = small k in omega arith) in
@@ -71,7 +71,7 @@ claims-small a members small =
     omega arith
 
 -- a list that has the claim of each account is the list of the claims
-pub claims-listed : (a : List ℤ) (xs : List ℕ) → length a ≡ 32 → length xs ≡ 32 →
-    ((m : ℕ) → m < 32 → getD xs m 0 ≡ claim (getD a m (pos 0))) → xs ≡ claims a
+pub claims-listed : (a : List ℤ) (xs : List ℕ) → length a ≡ memberCount → length xs ≡ memberCount →
+    ((m : ℕ) → m < memberCount → getD xs m 0 ≡ claim (getD a m (pos 0))) → xs ≡ claims a
 claims-listed a xs la lx h =
     ext-getD 0 xs (claims a) (lx ∙ sym la ∙ sym (claims-length a)) (λ m l. h m (omega arith) ∙ sym (claim-at a m))

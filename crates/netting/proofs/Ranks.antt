@@ -7,11 +7,11 @@ use mathlib.Core.Logic.{_⊎_, inl, inr, ⊎-elim}
 use mathlib.Core.Path.{_≡_, refl, sym, ap, _∙_}
 use lib.Dec.{ltb}
 use borrow.Author.Tests.{ltb-true, ltb-false, lt-ltb, le-ltb}
-use Rattle.basics.proofs.Cases.{never, below-or-not}
-use Rattle.basics.specs.Choice.{pick}
+use Rattle.basics.proofs.Cases.{never, below-or-not, lesser-case}
 use Rattle.basics.specs.Lists.{countBelow}
 use Rattle.netting.specs.Shares.{comesBefore, rank}
 use Rattle.basics.proofs.Counts.{more, count-within, count-same, count-most, count-less}
+use Rattle.netting.specs.Accounts.{memberCount}
 
 -- two comparisons agree if each follows from the other
 ltb-same : (a b c d : ℕ) → (a < b → c < d) → (c < d → a < b) → ltb a b ≡ ltb c d
@@ -121,14 +121,11 @@ Ahead r k m = (r m < r k) ⊎ ((r k ≡ r m) × (k < m))
 -- where the test holds, k comes before m
 pub ahead : (r : ℕ → ℕ) (k m : ℕ) → comesBefore r k m ≡ true → Ahead r k m
 unfolding comesBefore
-ahead r k m = by (ltb (r m) (r k)) (ltb (r k) (r m)) refl refl
-  where
-    by : (a b : Bool) → ltb (r m) (r k) ≡ a → ltb (r k) (r m) ≡ b → pick a true (pick b false (ltb k m)) ≡ true →
-        Ahead r k m
-    by true b e f h = inl (ltb-true (r m) (r k) e)
-    by false true e f h = absurd (never h)
-    by false false e f h =
-        let x = ltb-false (r m) (r k) e in let y = ltb-false (r k) (r m) f in inr (omega arith, ltb-true k m h)
+ahead r k m =
+    lesser-case (λ t. t ≡ true → Ahead r k m) (r m) (r k) (ltb k m)
+    (λ l h. inl l)
+    (λ l h. absurd (never h))
+    (λ e h. inr (sym e, ltb-true k m h))
 
 -- where k comes before m, the test holds
 pub comes-first : (r : ℕ → ℕ) (k m : ℕ) → Ahead r k m → comesBefore r k m ≡ true
@@ -174,17 +171,17 @@ comes-before-ranks r = record {
         v
 
 -- of the 32 members, exactly L have a rank below L
-pub ranks-below : (r : ℕ → ℕ) (L : ℕ) → L ≤ 32 → countBelow 32 (λ (m : ℕ). ltb (rank r m) L) ≡ L
+pub ranks-below : (r : ℕ → ℕ) (L : ℕ) → L ≤ memberCount → countBelow memberCount (λ (m : ℕ). ltb (rank r m) L) ≡ L
 unfolding rank place
-ranks-below r L h = places (comesBefore r) (comes-before-ranks r) 32 L h
+ranks-below r L h = places (comesBefore r) (comes-before-ranks r) memberCount L h
 
 -- a member that comes before another has the lower rank
-pub rank-lower : (r : ℕ → ℕ) (k m : ℕ) → k < 32 → comesBefore r k m ≡ true → rank r k < rank r m
+pub rank-lower : (r : ℕ → ℕ) (k m : ℕ) → k < memberCount → comesBefore r k m ≡ true → rank r k < rank r m
 unfolding rank place
-rank-lower r k m l h = place-less (comesBefore r) (comes-before-ranks r) 32 k m l h
+rank-lower r k m l h = place-less (comesBefore r) (comes-before-ranks r) memberCount k m l h
 
 -- a member with the lower rank comes before the other
-pub rank-first : (r : ℕ → ℕ) (k m : ℕ) → m < 32 → rank r k < rank r m → comesBefore r k m ≡ true
+pub rank-first : (r : ℕ → ℕ) (k m : ℕ) → m < memberCount → rank r k < rank r m → comesBefore r k m ≡ true
 rank-first r k m l h = by (comesBefore r k m) refl
   where
     by : (t : Bool) → comesBefore r k m ≡ t → comesBefore r k m ≡ true
@@ -195,7 +192,7 @@ rank-first r k m l h = by (comesBefore r k m) refl
         absurd (omega arith)
 
 -- a rank depends on the remainders of the 32 members alone
-pub rank-same : (r s : ℕ → ℕ) → ((k : ℕ) → k < 32 → r k ≡ s k) → (m : ℕ) → m < 32 → rank r m ≡ rank s m
+pub rank-same : (r s : ℕ → ℕ) → ((k : ℕ) → k < memberCount → r k ≡ s k) → (m : ℕ) → m < memberCount → rank r m ≡ rank s m
 unfolding rank comesBefore
 rank-same r s h m l =
-    count-same 32 (λ (k : ℕ). comesBefore r k m) (λ (k : ℕ). comesBefore s k m) (λ k i. rw (h k i, h m l))
+    count-same memberCount (λ (k : ℕ). comesBefore r k m) (λ (k : ℕ). comesBefore s k m) (λ k i. rw (h k i, h m l))

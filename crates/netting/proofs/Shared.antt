@@ -19,12 +19,13 @@ use Rattle.basics.proofs.TableSums.{sum-both}
 use Rattle.netting.specs.Shares.{floorShare, remainder, centsLeft, comesBefore, rank, extraCent, share, shares}
 use Rattle.basics.proofs.Counts.{count-within, count-most, sum-same, sum-ones, sum-counted, sum-parts}
 use Rattle.basics.proofs.Counts.{sum-listed}
+use Rattle.netting.specs.Accounts.{memberCount}
 use Rattle.netting.proofs.Ranks.{comes-first, ranks-below, rank-first}
 
 -- the list of shares has at each member's place what that member gets
-pub share-at : (c : ℕ) (gs : List ℕ) (m : ℕ) → m < 32 → getD (shares c gs) m 0 ≡ share c gs m
+pub share-at : (c : ℕ) (gs : List ℕ) (m : ℕ) → m < memberCount → getD (shares c gs) m 0 ≡ share c gs m
 unfolding shares
-share-at c gs m l = table-at 32 (share c gs) m 0 l
+share-at c gs m l = table-at memberCount (share c gs) m 0 l
 
 share-none : (c : ℕ) (gs : List ℕ) (m : ℕ) → getD gs m 0 ≡ 0 → share c gs m ≡ 0
 unfolding share
@@ -35,7 +36,7 @@ unfolding share
 share-claimed c gs m h = rw (lt-ltb 0 (getD gs m 0) h)
 
 -- a member without a claim gets nothing
-pub shares-no-claim : (c : ℕ) (gs : List ℕ) (m : ℕ) → m < 32 → getD gs m 0 ≡ 0 → getD (shares c gs) m 0 ≡ 0
+pub shares-no-claim : (c : ℕ) (gs : List ℕ) (m : ℕ) → m < memberCount → getD gs m 0 ≡ 0 → getD (shares c gs) m 0 ≡ 0
 shares-no-claim c gs m l h = share-at c gs m l ∙ share-none c gs m h
 
 unclaimed : (gs : List ℕ) → sum gs ≤ 0 → (m : ℕ) → getD gs m 0 ≡ 0
@@ -47,9 +48,9 @@ zeros zero f k h = refl
 zeros (suc n) f k h = rw (h k, zeros n f (suc k) h)
 
 -- where nothing is claimed, all get 0
-pub shares-none : (c : ℕ) (gs : List ℕ) → sum gs ≡ 0 → shares c gs ≡ replicate 32 0
+pub shares-none : (c : ℕ) (gs : List ℕ) → sum gs ≡ 0 → shares c gs ≡ replicate memberCount 0
 unfolding shares
-shares-none c gs h = zeros 32 (share c gs) 0 (λ m. share-none c gs m (unclaimed gs (omega arith) m))
+shares-none c gs h = zeros memberCount (share c gs) 0 (λ m. share-none c gs m (unclaimed gs (omega arith) m))
 
 -- a claim of 0 has the floor 0 and the remainder 0
 floor-none : (c : ℕ) (gs : List ℕ) (m : ℕ) → getD gs m 0 ≡ 0 → (floorShare c gs m ≡ 0) × (remainder c gs m ≡ 0)
@@ -69,22 +70,22 @@ cent c gs m =
     (λ e. inl (refl, ltb-false (rank (remainder c gs) m) (centsLeft c gs) e))
 
 -- c cents are shared among the claims gs of 32 members
-module _ (c : ℕ) (gs : List ℕ) (members : length gs ≡ 32) where
+module _ (c : ℕ) (gs : List ℕ) (members : length gs ≡ memberCount) where
   abbrev whole : ℕ
   whole = sum gs
 
   abbrev floors : ℕ
-  floors = sum (table 32 (floorShare c gs))
+  floors = sum (table memberCount (floorShare c gs))
 
   -- the floors, times the whole, and the remainders add up to all of the products
-  parts : floors * whole + sum (table 32 (remainder c gs)) ≡ c * whole
+  parts : floors * whole + sum (table memberCount (remainder c gs)) ≡ c * whole
   unfolding floorShare remainder
   parts =
-      sum-parts 32 c whole (λ (k : ℕ). getD gs k 0) ∙ ap (λ (x : ℕ). c * x) (sum-listed gs 32 members)
+      sum-parts memberCount c whole (λ (k : ℕ). getD gs k 0) ∙ ap (λ (x : ℕ). c * x) (sum-listed gs memberCount members)
 
   no-floors : whole ≤ 0 → floors ≡ 0
   unfolding total
-  no-floors h = ap sum (zeros 32 (floorShare c gs) 0 (λ m. floor-none c gs m (unclaimed gs h m) .0))
+  no-floors h = ap sum (zeros memberCount (floorShare c gs) 0 (λ m. floor-none c gs m (unclaimed gs h m) .0))
 
   -- the floors add up to at most c
   pub floors-most : floors ≤ c
@@ -100,7 +101,7 @@ module _ (c : ℕ) (gs : List ℕ) (members : length gs ≡ 32) where
   all-of-it = omega (arith, floors-most)
 
   -- the remainders add up to the whole times the cents left
-  remainders-are : sum (table 32 (remainder c gs)) ≡ centsLeft c gs * whole
+  remainders-are : sum (table memberCount (remainder c gs)) ≡ centsLeft c gs * whole
   remainders-are =
       let p = parts in
       let a = add-mul floors (centsLeft c gs) whole in
@@ -111,18 +112,18 @@ module _ (c : ℕ) (gs : List ℕ) (members : length gs ≡ 32) where
   rounded k = ltb 0 (remainder c gs k)
 
   -- at least as many members have a remainder above 0 as there are cents left
-  enough : 0 < whole → centsLeft c gs ≤ countBelow 32 rounded
+  enough : 0 < whole → centsLeft c gs ≤ countBelow memberCount rounded
   unfolding remainder
   enough some =
       let e = remainders-are in
-      let f = sum-counted 32 (remainder c gs) whole (λ k. let l = mod-lt (c * getD gs k 0) some in omega arith) in
+      let f = sum-counted memberCount (remainder c gs) whole (λ k. let l = mod-lt (c * getD gs k 0) some in omega arith) in
       le-of-mul-le-mul-right {k = whole} (omega arith) some
 
   -- a member without a remainder comes after all members that have one
-  last : (m : ℕ) → remainder c gs m ≤ 0 → countBelow 32 rounded ≤ rank (remainder c gs) m
+  last : (m : ℕ) → remainder c gs m ≤ 0 → countBelow memberCount rounded ≤ rank (remainder c gs) m
   unfolding rank
   last m h =
-      count-most 32 rounded (λ (k : ℕ). comesBefore (remainder c gs) k m)
+      count-most memberCount rounded (λ (k : ℕ). comesBefore (remainder c gs) k m)
       (λ k l e. first k (ltb-true 0 (remainder c gs k) e))
     where
       first : (k : ℕ) → 0 < remainder c gs k → comesBefore (remainder c gs) k m ≡ true
@@ -133,10 +134,10 @@ module _ (c : ℕ) (gs : List ℕ) (members : length gs ≡ 32) where
     left-of-none : whole ≤ 0 → centsLeft c gs ≡ 0
     left-of-none h = omega (arith, all-of-it)
 
-    few : centsLeft c gs ≤ 32
+    few : centsLeft c gs ≤ memberCount
     few =
         ⊎-elim
-        (λ (some : 0 < whole). omega (arith, enough some, count-within 32 rounded))
+        (λ (some : 0 < whole). omega (arith, enough some, count-within memberCount rounded))
         (λ (none : whole ≤ 0). omega (arith, left-of-none none))
         (below-or-not 0 whole)
 
@@ -167,23 +168,23 @@ module _ (c : ℕ) (gs : List ℕ) (members : length gs ≡ 32) where
         none : getD gs m 0 ≡ 0 → share c gs m ≡ floorShare c gs m + extraCent c gs m
         none z = omega (arith, share-none c gs m z, floor-none c gs m z .0, no-extra m z)
 
-    extras : sum (table 32 (extraCent c gs)) ≡ centsLeft c gs
+    extras : sum (table memberCount (extraCent c gs)) ≡ centsLeft c gs
     unfolding extraCent
     extras =
-        sum-ones 32 (λ (m : ℕ). ltb (rank (remainder c gs) m) (centsLeft c gs))
+        sum-ones memberCount (λ (m : ℕ). ltb (rank (remainder c gs) m) (centsLeft c gs))
         ∙ ranks-below (remainder c gs) (centsLeft c gs) few
 
     -- the shares add up to what is collected
     pub shares-total : sum (shares c gs) ≡ c
     unfolding shares
     shares-total =
-        sum-same 32 (share c gs) (λ (m : ℕ). floorShare c gs m + extraCent c gs m) (λ m l. share-is m)
-        ∙ sum-both 0 32 (floorShare c gs) (extraCent c gs)
+        sum-same memberCount (share c gs) (λ (m : ℕ). floorShare c gs m + extraCent c gs m) (λ m l. share-is m)
+        ∙ sum-both 0 memberCount (floorShare c gs) (extraCent c gs)
         ∙ ap (λ (x : ℕ). floors + x) extras
         ∙ all-of-it
 
     -- a member gets its floor or one cent more
-    pub shares-floor : (m : ℕ) → m < 32 →
+    pub shares-floor : (m : ℕ) → m < memberCount →
         (getD (shares c gs) m 0 ≡ floorShare c gs m) ⊎ (getD (shares c gs) m 0 ≡ floorShare c gs m + 1)
     shares-floor m l =
         let e = share-at c gs m l ∙ share-is m in
@@ -213,7 +214,7 @@ module _ (c : ℕ) (gs : List ℕ) (members : length gs ≡ 32) where
         ⊎-elim (λ w. omega (arith, floor-within m s)) (λ w. omega (arith, floor-less m (winner m (w .1)))) (cent c gs m)
 
     -- a share is at most its claim
-    pub shares-most : (m : ℕ) → m < 32 → getD (shares c gs) m 0 ≤ getD gs m 0
+    pub shares-most : (m : ℕ) → m < memberCount → getD (shares c gs) m 0 ≤ getD gs m 0
     shares-most m l =
         let e = share-at c gs m l in
         ⊎-elim
@@ -229,7 +230,7 @@ module _ (c : ℕ) (gs : List ℕ) (members : length gs ≡ 32) where
 
     -- The cents go to the larger remainders, and of two alike to the lower member: a member that got one comes before a
     -- member that did not.
-    pub shares-ranked : (m k : ℕ) → m < 32 → k < 32 → getD (shares c gs) m 0 ≡ floorShare c gs m + 1 →
+    pub shares-ranked : (m k : ℕ) → m < memberCount → k < memberCount → getD (shares c gs) m 0 ≡ floorShare c gs m + 1 →
         getD (shares c gs) k 0 ≡ floorShare c gs k → comesBefore (remainder c gs) m k ≡ true
     shares-ranked m k lm lk em ek =
         let x = share-at c gs m lm ∙ share-is m in

@@ -12,7 +12,7 @@ use mir.Syntax.{w64}
 use mir.Val.{SFits, toZ}
 use borrow.Author.Tests.{eqb-true, eqb-false}
 use Rattle.basics.specs.Choice.{pick}
-use Rattle.netting.specs.Accounts.{debited, credited, transferred, balance, Transferable}
+use Rattle.netting.specs.Accounts.{memberCount, debited, credited, transferred, balance, Transferable}
 use Rattle.netting.proofs.Signed.{read, sum-abs, negative-abs, plus-fits, plus-is, minus-fits, minus-is}
 
 -- the account of member m
@@ -115,7 +115,7 @@ module _ (d c n : ℕ) (accounts : List ℤ) where
         by false e = apart-abs l (eqb-false d c e) m (eqb m c) refl
 
 -- what the machine computes in such a transfer
-module _ (d c n : ℕ) (accounts : List ℤ) (t : Transferable d c n accounts) (members : length accounts ≡ 32) where
+module _ (d c n : ℕ) (accounts : List ℤ) (t : Transferable d c n accounts) (members : length accounts ≡ memberCount) where
   abbrev debit : ℤ
   debit = read (read (accountOf accounts d) -ℤ toZ w64 n)
 

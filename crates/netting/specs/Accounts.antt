@@ -5,6 +5,10 @@ use lib.ListN.{getD, set}
 use lib.IntN.{ℤ, pos, negsuc, _+ℤ_, _-ℤ_, natAbs}
 use Rattle.basics.specs.Lists.{sum}
 
+-- M1, Month: how many members there are, each with an account
+abbrev pub memberCount : ℕ
+memberCount = 32
+
 -- M4, Month: an account above zero claims its size, and any other claims 0
 abbrev pub claim : ℤ → ℕ
 claim (pos n) = n
@@ -46,8 +50,8 @@ Bounded accounts = (m : ℕ) → natAbs (getD accounts m (pos 0)) ≤ mostAccoun
 
 -- what a transfer requires
 pub record Transferable (debtor creditor cents : ℕ) (accounts : List ℤ) : Type 0 where
-  pub debtor-below : debtor < 32
-  pub creditor-below : creditor < 32
+  pub debtor-below : debtor < memberCount
+  pub creditor-below : creditor < memberCount
   pub cents-most : cents ≤ mostAccount
   pub bounded : Bounded accounts
 

@@ -7,6 +7,7 @@ use lib.Dec.{ltb}
 use lib.ListN.{getD}
 use Rattle.basics.specs.Choice.{pick}
 use Rattle.basics.specs.Lists.{sum, table}
+use Rattle.netting.specs.Accounts.{memberCount}
 use Rattle.netting.specs.declared.Portions.{Portions}
 use Rattle.netting.specs.Shares.{floorShare, remainder, centsLeft, rank}
 
@@ -23,8 +24,8 @@ byMember xs m = getD xs m 0
 -- the shares rounded down, the remainders and the cents left, for the sum c and the claims gs
 unfoldable pub portions : ℕ → List ℕ → Portions
 portions c gs = record {
-  floors = table 32 (floorShare c gs);
-  remainders = table 32 (remainder c gs);
+  floors = table memberCount (floorShare c gs);
+  remainders = table memberCount (remainder c gs);
   left = centsLeft c gs;
 }
 

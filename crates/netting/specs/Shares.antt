@@ -7,6 +7,7 @@ use lib.Dec.{ltb}
 use lib.ListN.{getD}
 use Rattle.basics.specs.Choice.{pick}
 use Rattle.basics.specs.Lists.{sum, table, countBelow}
+use Rattle.netting.specs.Accounts.{memberCount}
 
 -- M5, Month: claim g first gets C × g / G, rounded down
 unfoldable pub floorShare : ℕ → List ℕ → ℕ → ℕ
@@ -18,7 +19,7 @@ remainder c gs m = c * getD gs m 0 % sum gs
 
 -- M6, Month: the cents of C that are then left over
 unfoldable pub centsLeft : ℕ → List ℕ → ℕ
-centsLeft c gs = c - sum (table 32 (floorShare c gs))
+centsLeft c gs = c - sum (table memberCount (floorShare c gs))
 
 -- M6, Month: whether member k comes before member m for a cent: the larger remainder comes first, and of two alike the
 -- lower member
@@ -27,7 +28,7 @@ comesBefore r k m = pick (ltb (r m) (r k)) true (pick (ltb (r k) (r m)) false (l
 
 -- M6, Month: how many of the 32 members come before member m
 unfoldable pub rank : (ℕ → ℕ) → ℕ → ℕ
-rank r m = countBelow 32 (λ k. comesBefore r k m)
+rank r m = countBelow memberCount (λ k. comesBefore r k m)
 
 -- M6, Month: member m gets one of the cents left if fewer members come before it than there are cents
 unfoldable pub extraCent : ℕ → List ℕ → ℕ → ℕ
@@ -39,4 +40,4 @@ share c gs m = pick (ltb 0 (getD gs m 0)) (floorShare c gs m + extraCent c gs m)
 
 -- M5 to M8, Month: what each of the 32 members gets
 unfoldable pub shares : ℕ → List ℕ → List ℕ
-shares c gs = table 32 (share c gs)
+shares c gs = table memberCount (share c gs)

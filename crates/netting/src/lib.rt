@@ -8,14 +8,17 @@ ghost use lib.IntN.{natAbs};
 ghost use Rattle.basics.specs.Lists.{sum};
 ghost use Rattle.amounts.specs.Quotients.{divided};
 ghost use Rattle.netting.specs.Accounts.{claim, owed, claims, transferred};
-ghost use Rattle.netting.specs.Accounts.{mostAccount, Bounded, Transferable, Shareable};
+ghost use Rattle.netting.specs.Accounts.{memberCount, mostAccount, Bounded, Transferable, Shareable};
 ghost use Rattle.netting.specs.Shares.{comesBefore, rank, shares};
 ghost use Rattle.netting.specs.Portions.{Dividable, byMember, portions, centOf, shareOf};
 
+// How many members there are; `memberCount` in specs/.
+pub const MEMBER_COUNT: usize = 32;
+
 // What the code computes before any share: each member's share rounded down, each remainder, and the cents left.
 struct Portions {
-    floors: [u64; 32],
-    remainders: [u64; 32],
+    floors: [u64; MEMBER_COUNT],
+    remainders: [u64; MEMBER_COUNT],
     left: u64,
 }
 
@@ -42,7 +45,12 @@ pub fn owed_by(account: i64) -> u64
 
 // Moves cents from the account of one member to that of another. It reads the creditor's account after it has stored
 // the debit, so a transfer from a member to itself would change nothing.
-pub fn transfer(accounts: [i64; 32], debtor: usize, creditor: usize, cents: u64) -> [i64; 32]
+pub fn transfer(
+    accounts: [i64; MEMBER_COUNT],
+    debtor: usize,
+    creditor: usize,
+    cents: u64,
+) -> [i64; MEMBER_COUNT]
     requires { ⌜ Transferable debtor creditor cents accounts ⌝ }
     ensures { λ r. ⌜ r ≡ transferred debtor creditor cents accounts ⌝ }
 {
@@ -55,13 +63,13 @@ pub fn transfer(accounts: [i64; 32], debtor: usize, creditor: usize, cents: u64)
 }
 
 // Returns the claims of all members.
-fn claims_of(accounts: [i64; 32]) -> [u64; 32]
+fn claims_of(accounts: [i64; MEMBER_COUNT]) -> [u64; MEMBER_COUNT]
     requires { ⌜ Bounded accounts ⌝ }
     ensures { λ r. ⌜ r ≡ claims accounts ⌝ }
 {
-    let mut claims = [0u64; 32];
+    let mut claims = [0u64; MEMBER_COUNT];
     let mut m = 0;
-    while m < 32 {
+    while m < MEMBER_COUNT {
         let account = accounts[m];
         claims[m] = claim_of(account);
         m += 1;
@@ -70,13 +78,13 @@ fn claims_of(accounts: [i64; 32]) -> [u64; 32]
 }
 
 // Returns the sum of the amounts of all members.
-pub fn sum_of(amounts: [u64; 32]) -> u64
+pub fn sum_of(amounts: [u64; MEMBER_COUNT]) -> u64
     requires { ⌜ sum amounts < 2 ^ 64 ⌝ }
     ensures { λ r. ⌜ r ≡ sum amounts ⌝ }
 {
     let mut so_far: u64 = 0;
     let mut m = 0;
-    while m < 32 {
+    while m < MEMBER_COUNT {
         so_far += amounts[m];
         m += 1;
     }
@@ -100,15 +108,15 @@ fn portion_of(collected: u64, claim: u64, whole: u64) -> Divided
 
 // Returns the portions of all claims, and the cents that the rounding leaves. The shares rounded down never exceed what
 // was collected.
-fn portions_of(collected: u64, claims: [u64; 32]) -> Portions
+fn portions_of(collected: u64, claims: [u64; MEMBER_COUNT]) -> Portions
     requires { ⌜ Dividable collected claims ⌝ }
     ensures { λ r. ⌜ r ≡ portions collected claims ⌝ }
 {
     let whole = sum_of(claims);
-    let mut floors = [0u64; 32];
-    let mut remainders = [0u64; 32];
+    let mut floors = [0u64; MEMBER_COUNT];
+    let mut remainders = [0u64; MEMBER_COUNT];
     let mut m = 0;
-    while m < 32 {
+    while m < MEMBER_COUNT {
         let portion = portion_of(collected, claims[m], whole);
         floors[m] = portion.quotient;
         remainders[m] = portion.remainder;
@@ -124,29 +132,23 @@ fn portions_of(collected: u64, claims: [u64; 32]) -> Portions
 
 // Says whether member k comes before member m for a cent: the larger remainder comes first, and of two alike the lower
 // member.
-fn comes_before(remainders: [u64; 32], k: usize, m: usize) -> bool
-    requires { ⌜ (k < 32) × (m < 32) ⌝ }
+fn comes_before(remainders: [u64; MEMBER_COUNT], k: usize, m: usize) -> bool
+    requires { ⌜ (k < memberCount) × (m < memberCount) ⌝ }
     ensures { λ r. ⌜ r ≡ comesBefore (byMember remainders) k m ⌝ }
 {
     let first = remainders[k];
     let second = remainders[m];
-    if second < first {
-        return true;
-    }
-    if first < second {
-        return false;
-    }
-    k < m
+    second < first || second == first && k < m
 }
 
 // Returns how many members come before member m for a cent.
-fn rank_of(remainders: [u64; 32], m: usize) -> u64
-    requires { ⌜ m < 32 ⌝ }
+fn rank_of(remainders: [u64; MEMBER_COUNT], m: usize) -> u64
+    requires { ⌜ m < memberCount ⌝ }
     ensures { λ r. ⌜ r ≡ rank (byMember remainders) m ⌝ }
 {
     let mut ahead: u64 = 0;
     let mut k = 0;
-    while k < 32 {
+    while k < MEMBER_COUNT {
         if comes_before(remainders, k, m) {
             ahead += 1;
         }
@@ -157,7 +159,7 @@ fn rank_of(remainders: [u64; 32], m: usize) -> u64
 
 // Returns 1 if member m gets one of the cents left, and 0 if not. Where no cent is left, it computes no rank.
 fn cent_of(portions: Portions, m: usize) -> u64
-    requires { ⌜ m < 32 ⌝ }
+    requires { ⌜ m < memberCount ⌝ }
     ensures { λ r. ⌜ r ≡ centOf portions m ⌝ }
 {
     let left = portions.left;
@@ -169,8 +171,8 @@ fn cent_of(portions: Portions, m: usize) -> u64
 }
 
 // Returns what one member gets: 0 without a claim, else its share rounded down and perhaps a cent.
-fn share_of(claims: [u64; 32], portions: Portions, m: usize) -> u64
-    requires { ⌜ (m < 32) × (getD (portions .floors) m 0 ≤ 2 ^ 48) ⌝ }
+fn share_of(claims: [u64; MEMBER_COUNT], portions: Portions, m: usize) -> u64
+    requires { ⌜ (m < memberCount) × (getD (portions .floors) m 0 ≤ 2 ^ 48) ⌝ }
     ensures { λ r. ⌜ r ≡ shareOf claims portions m ⌝ }
 {
     if claims[m] == 0 {
@@ -181,15 +183,15 @@ fn share_of(claims: [u64; 32], portions: Portions, m: usize) -> u64
 }
 
 // Returns what each member gets of the sum collected in a month.
-pub fn shares_of(accounts: [i64; 32], collected: u64) -> [u64; 32]
+pub fn shares_of(accounts: [i64; MEMBER_COUNT], collected: u64) -> [u64; MEMBER_COUNT]
     requires { ⌜ Shareable accounts collected ⌝ }
     ensures { λ r. ⌜ r ≡ shares collected (claims accounts) ⌝ }
 {
     let claims = claims_of(accounts);
     let portions = portions_of(collected, claims);
-    let mut payouts = [0u64; 32];
+    let mut payouts = [0u64; MEMBER_COUNT];
     let mut m = 0;
-    while m < 32 {
+    while m < MEMBER_COUNT {
         payouts[m] = share_of(claims, portions, m);
         m += 1;
     }

@@ -12,7 +12,7 @@ use lib.Seq.{slice, slice-cons, slice-empty, take-suc-set, drop-set-lt, drop-dro
 use Rattle.basics.specs.Choice.{pick}
 use Rattle.offers.specs.declared.Offer.{Offer}
 use Rattle.offers.specs.Rank.{overtakes, insertedBy, inserted}
-use Rattle.offers.specs.Held.{noOffer}
+use Rattle.offers.specs.Held.{mostOffers, noOffer}
 
 -- What is to come behind the rows that were passed: once a row has moved, x and then the rest; before that, the rest
 -- with x inserted.
@@ -23,12 +23,12 @@ settled moved x ys = pick moved (x ∷ ys) (inserted x ys)
 pub record Carried (from : List Offer) (n : ℕ) (o : Offer) (rows : List Offer) (x : Offer) (m : Bool) (k : ℕ) : Type 0
   where
     pub within : k ≤ n
-    pub size : length rows ≡ 64
+    pub size : length rows ≡ mostOffers
     pub rest : drop k rows ≡ drop k from
     pub made : take k rows ++ settled m x (slice k n from) ≡ inserted o (take n from)
 
 -- before the first row
-pub carried-begins : (from : List Offer) (n : ℕ) (o : Offer) → length from ≡ 64 → Carried from n o from o false 0
+pub carried-begins : (from : List Offer) (n : ℕ) (o : Offer) → length from ≡ mostOffers → Carried from n o from o false 0
 unfolding settled
 carried-begins from n o s = record { within = omega arith; size = s; rest = refl; made = refl }
 
@@ -48,7 +48,7 @@ unfolding settled insertedBy
 settled-none true x = refl
 settled-none false x = refl
 
-module _ (from : List Offer) (n : ℕ) (o : Offer) (room : n < 64) (s : length from ≡ 64) where
+module _ (from : List Offer) (n : ℕ) (o : Offer) (room : n < mostOffers) (s : length from ≡ mostOffers) where
   -- one row is passed: it takes v, and x' is carried on
   pub carried-step : (rows : List Offer) (x : Offer) (m t : Bool) (k : ℕ) (y v x' : Offer)
       → Carried from n o rows x m k → k < n

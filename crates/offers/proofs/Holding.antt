@@ -10,7 +10,7 @@ use Rattle.basics.specs.Lists.{Every}
 use Rattle.offers.specs.declared.Offer.{Offer}
 use Rattle.offers.specs.declared.Offers.{Offers}
 use Rattle.offers.specs.Rank.{overtakes, inserted, ranked, rankedBy}
-use Rattle.offers.specs.Held.{noOffers, listed, withOffer}
+use Rattle.offers.specs.Held.{mostOffers, noOffers, listed, withOffer}
 use Rattle.offers.proofs.Insertion.{length-inserted, every-inserted}
 
 -- as many offers are listed as are counted
@@ -22,7 +22,7 @@ pub listed-none : listed noOffers ≡ ranked []
 unfolding rankedBy
 listed-none = refl
 
-module _ (s : Offers) (o : Offer) (room : s .count < 64) (size : length (s .rows) ≡ 64) where
+module _ (s : Offers) (o : Offer) (room : s .count < mostOffers) (size : length (s .rows) ≡ mostOffers) where
   inserted-length : length (inserted o (listed s)) ≡ s .count + 1
   inserted-length =
       length-inserted overtakes o (listed s) ∙ ap suc (listed-length s (omega arith)) ∙ sym (add-one (s .count))
@@ -36,7 +36,7 @@ module _ (s : Offers) (o : Offer) (room : s .count < 64) (size : length (s .rows
   count-with = refl
 
   -- there are still 64 rows
-  pub size-with : length (withOffer s o .rows) ≡ 64
+  pub size-with : length (withOffer s o .rows) ≡ mostOffers
   size-with =
       length-append (inserted o (listed s)) (drop (s .count + 1) (s .rows))
       ∙ omega (arith, inserted-length, length-drop (s .count + 1) (s .rows))

@@ -17,7 +17,7 @@ use Rattle.basics.proofs.Places.{padded-more}
 use Rattle.offers.specs.declared.Offer.{Offer}
 use Rattle.offers.specs.declared.Given.{Given}
 use Rattle.offers.specs.declared.BuyIn.{BuyIn}
-use Rattle.offers.specs.Held.{noOffer}
+use Rattle.offers.specs.Held.{mostOffers, noOffer}
 use Rattle.offers.specs.BuyIn.{offersFor, withGiven, givenBy, given, nothingGiven, boughtWith}
 
 -- the quantity that one offer gives to obligation i, of which some quantity is left
@@ -38,7 +38,7 @@ pub record Passed (i left : ℕ) (rows : List Offer) (n : ℕ) (bought : List Gi
   pub so-far : List Given
   pub within : k ≤ n
   pub few : length so-far ≤ k
-  pub places : bought ≡ padded 64 nothingGiven so-far
+  pub places : bought ≡ padded mostOffers nothingGiven so-far
   pub filled : count ≡ length so-far
   pub made : so-far ++ given i rest (slice k n rows) ≡ given i left (take n rows)
 
@@ -68,7 +68,7 @@ given-none i left = refl
 
 module _ (i left : ℕ) (rows : List Offer) (n : ℕ) where
   -- before the first offer
-  pub passed-none : Passed i left rows n (replicate 64 nothingGiven) 0 left 0
+  pub passed-none : Passed i left rows n (replicate mostOffers nothingGiven) 0 left 0
   passed-none = record {
     so-far = [];
     within = omega arith;
@@ -86,7 +86,7 @@ module _ (i left : ℕ) (rows : List Offer) (n : ℕ) where
 
   module _ (bought : List Given) (count rest k : ℕ) (p : Passed i left rows n bought count rest k) where
     -- the turn of the offer x, which gives q
-    module _ (room : n ≤ 64) (size : length rows ≡ 64) (h : k < n)
+    module _ (room : n ≤ mostOffers) (size : length rows ≡ mostOffers) (h : k < n)
         (x : Offer) (ex : x ≡ getD rows k noOffer) (q : ℕ) (eq : q ≡ quantityFrom x i rest) where
       next : given i rest (slice k n rows) ≡ withGiven x q (given i (rest - q) (slice (k + 1) n rows))
       next =
@@ -105,7 +105,7 @@ module _ (i left : ℕ) (rows : List Offer) (n : ℕ) where
             within = omega arith;
             few = omega (arith, p .few, length-append (p .so-far) (g ∷ []));
             places =
-                rw (p .places, p .filled) (padded-more 64 nothingGiven g (p .so-far) (omega (arith, p .few)));
+                rw (p .places, p .filled) (padded-more mostOffers nothingGiven g (p .so-far) (omega (arith, p .few)));
             filled = omega (arith, p .filled, length-append (p .so-far) (g ∷ []));
             made = rw (append-assoc, ← with-some x q later z, ← next) (p .made);
           }

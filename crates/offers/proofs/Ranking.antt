@@ -7,11 +7,10 @@ use mathlib.Core.List.{List, [], _∷_, map}
 use lib.ListN.{length}
 use lib.Dec.{ltb}
 use borrow.Author.Tests.{ltb-true, ltb-false, le-ltb}
-use Rattle.basics.specs.Choice.{pick}
 use Rattle.basics.specs.Lists.{Every, Sorted}
 use Rattle.basics.specs.Lists.Every.{nobody}
 use Rattle.basics.specs.Lists.Sorted.{empty}
-use Rattle.basics.proofs.Cases.{never}
+use Rattle.basics.proofs.Cases.{never, lesser-case}
 use Rattle.offers.specs.declared.Offer.{Offer}
 use Rattle.offers.specs.Rank.{overtakes, inserted, ranked, rankedBy, Entry, TakenBefore, numbered, InOrder}
 use Rattle.basics.proofs.Everywhere.{every-map}
@@ -22,44 +21,38 @@ pub record NoWorse (x y : Offer) : Type 0 where
   pub price : x .price ≤ y .price
   pub quantity : x .price ≡ y .price → y .quantity ≤ x .quantity
 
+-- The test has three cases: x is cheaper, it is dearer, or the prices are the same and the quantities decide.
+overtakes-by : (P : Bool → Type 0) (x y : Offer) → (x .price < y .price → P true) → (y .price < x .price → P false)
+    → (x .price ≡ y .price → P (ltb (y .quantity) (x .quantity))) → P (overtakes x y)
+unfolding overtakes
+overtakes-by P x y cheaper dearer same =
+    lesser-case P (x .price) (y .price) (ltb (y .quantity) (x .quantity)) cheaper dearer same
+
 -- an offer that overtakes another is not dearer, and at the same price it is larger
 pub overtakes-true : (x y : Offer) → overtakes x y ≡ true
     → (x .price ≤ y .price) × (x .price ≡ y .price → y .quantity < x .quantity)
-unfolding overtakes
-overtakes-true x y = by (ltb (x .price) (y .price)) (ltb (y .price) (x .price)) refl refl
-  where
-    by : (t u : Bool) → ltb (x .price) (y .price) ≡ t → ltb (y .price) (x .price) ≡ u
-        → pick t true (pick u false (ltb (y .quantity) (x .quantity))) ≡ true
-        → (x .price ≤ y .price) × (x .price ≡ y .price → y .quantity < x .quantity)
-    by true u p q e = let h : x .price < y .price = ltb-true _ _ p in (omega arith, λ s. absurd (omega arith))
-    by false true p q e = absurd (never e)
-    by false false p q e = (ltb-false _ _ q, λ s. ltb-true _ _ e)
+overtakes-true x y =
+    overtakes-by
+    (λ t. t ≡ true → (x .price ≤ y .price) × (x .price ≡ y .price → y .quantity < x .quantity)) x y
+    (λ l e. (omega arith, λ s. absurd (omega arith)))
+    (λ l e. absurd (never e))
+    (λ p e. (omega arith, λ s. ltb-true _ _ e))
 
 -- if x does not overtake y, then y is not dearer than x, and at the same price it is not smaller
 pub overtakes-false : (x y : Offer) → overtakes x y ≡ false → NoWorse y x
-unfolding overtakes
-overtakes-false x y = by (ltb (x .price) (y .price)) (ltb (y .price) (x .price)) refl refl
-  where
-    by : (t u : Bool) → ltb (x .price) (y .price) ≡ t → ltb (y .price) (x .price) ≡ u
-        → pick t true (pick u false (ltb (y .quantity) (x .quantity))) ≡ false
-        → NoWorse y x
-    by true u p q e = absurd (never (sym e))
-    by false true p q e =
-        let h : y .price < x .price = ltb-true _ _ q in
-        record { price = omega arith; quantity = λ s. absurd (omega arith) }
-    by false false p q e = record { price = ltb-false _ _ p; quantity = λ s. ltb-false _ _ e }
+overtakes-false x y =
+    overtakes-by (λ t. t ≡ false → NoWorse y x) x y
+    (λ l e. absurd (never (sym e)))
+    (λ l e. record { price = omega arith; quantity = λ s. absurd (omega arith) })
+    (λ p e. record { price = omega arith; quantity = λ s. ltb-false _ _ e })
 
 -- an offer overtakes none that is not dearer and, at the same price, not smaller
 pub no-worse-kept : (x y : Offer) → NoWorse y x → overtakes x y ≡ false
-unfolding overtakes
-no-worse-kept x y a = by (ltb (y .price) (x .price)) refl
-  where
-    by : (u : Bool) → ltb (y .price) (x .price) ≡ u
-        → pick (ltb (x .price) (y .price)) true (pick u false (ltb (y .quantity) (x .quantity))) ≡ false
-    by true q = rw (le-ltb (x .price) (y .price) (a .price))
-    by false q =
-        let same : y .price ≡ x .price = omega (arith, a .price, ltb-false (y .price) (x .price) q) in
-        rw (le-ltb (x .price) (y .price) (a .price), le-ltb (y .quantity) (x .quantity) (a .quantity same))
+no-worse-kept x y a =
+    overtakes-by (λ t. t ≡ false) x y
+    (λ l. absurd (omega (arith, a .price)))
+    (λ l. refl)
+    (λ p. le-ltb (y .quantity) (x .quantity) (a .quantity (sym p)))
 
 no-worse-transitive : (x y z : Offer) → NoWorse x y → NoWorse y z → NoWorse x z
 no-worse-transitive x y z a b = record {

@@ -8,7 +8,7 @@ use Rattle.basics.specs.Lists.{table, sum}
 use Rattle.basics.proofs.Places.{padded-front, padded-length}
 use Rattle.offers.specs.declared.Given.{Given}
 use Rattle.offers.specs.declared.Offers.{Offers}
-use Rattle.offers.specs.Held.{listed}
+use Rattle.offers.specs.Held.{mostOffers, listed}
 use Rattle.offers.specs.BuyIn.{given, nothingGiven, boughtWith}
 use Rattle.offers.proofs.Giving.{given-most, given-all-most}
 
@@ -23,8 +23,8 @@ all-lines-most n left s = omega (arith, given-all-most n left (listed s), length
 
 -- the first count places hold what was given
 pub bought-given : (gs : List Given) → take (boughtWith gs .count) (boughtWith gs .given) ≡ gs
-bought-given gs = padded-front 64 nothingGiven gs
+bought-given gs = padded-front mostOffers nothingGiven gs
 
 -- there are 64 places
-pub bought-size : (gs : List Given) → length gs ≤ 64 → length (boughtWith gs .given) ≡ 64
-bought-size gs h = padded-length 64 nothingGiven gs h
+pub bought-size : (gs : List Given) → length gs ≤ mostOffers → length (boughtWith gs .given) ≡ mostOffers
+bought-size gs h = padded-length mostOffers nothingGiven gs h

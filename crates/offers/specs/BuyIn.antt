@@ -8,7 +8,7 @@ use Rattle.basics.specs.Lists.{total, padded}
 use Rattle.offers.specs.declared.Offer.{Offer}
 use Rattle.offers.specs.declared.Given.{Given}
 use Rattle.offers.specs.declared.BuyIn.{BuyIn}
-use Rattle.offers.specs.Held.{noOffer}
+use Rattle.offers.specs.Held.{mostOffers, noOffer}
 
 -- C7, Close: the offers for obligation i, in the order in which they stand in the list
 unfoldable pub offersFor : ℕ → List Offer → List Offer
@@ -41,6 +41,6 @@ offered = total (λ x. x .quantity)
 abbrev pub nothingGiven : Given
 nothingGiven = record { offer = noOffer; quantity = 0 }
 
--- what a pass over the offers returns: what was given, in its order, and free places up to 64
+-- what a pass over the offers returns: what was given, in its order, and free places behind it
 abbrev pub boughtWith : List Given → BuyIn
-boughtWith gs = record { given = padded 64 nothingGiven gs; count = length gs }
+boughtWith gs = record { given = padded mostOffers nothingGiven gs; count = length gs }

@@ -1,10 +1,14 @@
 -- The day's offers as the book holds them, in the order of the auction.
-use Prim.Native.Nat.{_+_}
+use Prim.Native.Nat.{ℕ, _+_}
 use mathlib.Core.List.{List, _++_}
 use lib.ListN.{take, drop, replicate}
 use Rattle.offers.specs.declared.Offer.{Offer}
 use Rattle.offers.specs.declared.Offers.{Offers}
 use Rattle.offers.specs.Rank.{inserted}
+
+-- B5, Buy-in: the most offers that a book holds
+abbrev pub mostOffers : ℕ
+mostOffers = 64
 
 -- this fills a free place
 abbrev pub noOffer : Offer
@@ -12,7 +16,7 @@ noOffer = record { obligation = 0; supplier = 0; quantity = 0; price = 0 }
 
 -- O5, Open, and C17, Close: no offers, as in a fresh book and after each Close
 abbrev pub noOffers : Offers
-noOffers = record { rows = replicate 64 noOffer; count = 0 }
+noOffers = record { rows = replicate mostOffers noOffer; count = 0 }
 
 -- B5, Buy-in: the offers of today, in the order of the auction; the rows behind them are free
 abbrev pub listed : Offers → List Offer

@@ -5,8 +5,11 @@ ghost use Prim.Native.Nat.{_≤_, _<_, min};
 ghost use lib.Dec.{eqb};
 ghost use Rattle.basics.specs.Choice.{pick};
 ghost use Rattle.offers.specs.Rank.{overtakes};
-ghost use Rattle.offers.specs.Held.{noOffers, listed, withOffer};
+ghost use Rattle.offers.specs.Held.{mostOffers, noOffers, listed, withOffer};
 ghost use Rattle.offers.specs.BuyIn.{given, boughtWith};
+
+// The most offers of a day; `mostOffers` in specs/.
+pub const MOST_OFFERS: usize = 64;
 
 // A supplier's offer for one obligation.
 pub struct Offer {
@@ -18,7 +21,7 @@ pub struct Offer {
 
 // The offers of today, in the order of the auction. They are the first count rows.
 pub struct Offers {
-    pub rows: [Offer; 64],
+    pub rows: [Offer; MOST_OFFERS],
     pub count: usize,
 }
 
@@ -30,7 +33,7 @@ pub struct Given {
 
 // What the offers for one obligation give, in the order of the auction. It is in the first count places.
 pub struct BuyIn {
-    pub given: [Given; 64],
+    pub given: [Given; MOST_OFFERS],
     pub count: usize,
 }
 
@@ -53,13 +56,7 @@ const NOTHING_GIVEN: Given = Given {
 fn goes_ahead(later: Offer, earlier: Offer) -> bool
     ensures { λ r. ⌜ r ≡ overtakes later earlier ⌝ }
 {
-    if later.price < earlier.price {
-        return true;
-    }
-    if earlier.price < later.price {
-        return false;
-    }
-    earlier.quantity < later.quantity
+    later.price < earlier.price || later.price == earlier.price && earlier.quantity < later.quantity
 }
 
 // Says whether a row makes way for the offer that is carried along the rows. Once one row has made way, every row
@@ -67,10 +64,7 @@ fn goes_ahead(later: Offer, earlier: Offer) -> bool
 fn makes_way(moved: bool, carried: Offer, row: Offer) -> bool
     ensures { λ r. ⌜ r ≡ (moved || overtakes carried row) ⌝ }
 {
-    if moved {
-        return true;
-    }
-    goes_ahead(carried, row)
+    moved || goes_ahead(carried, row)
 }
 
 // Returns the first offer where the test holds, and the second where it does not.
@@ -97,7 +91,7 @@ impl Offers {
         ensures { λ r. ⌜ r ≡ noOffers ⌝ }
     {
         Offers {
-            rows: [NO_OFFER; 64],
+            rows: [NO_OFFER; MOST_OFFERS],
             count: 0,
         }
     }
@@ -105,7 +99,7 @@ impl Offers {
     // Adds an offer ahead of the first one that it overtakes. The new offer is carried along the rows to its place.
     // From there on, each row takes the offer that was ahead of it.
     pub fn insert(self, o: Offer) -> Offers
-        requires { ⌜ self .count < 64 ⌝ }
+        requires { ⌜ self .count < mostOffers ⌝ }
         ensures { λ r. ⌜ r ≡ withOffer self o ⌝ }
     {
         let mut rows = self.rows;
@@ -130,12 +124,12 @@ impl Offers {
     // Makes the buy-in of one obligation, of which the given quantity is left. It passes once over the offers, in the
     // order of the auction, and skips an offer that gives nothing.
     pub fn buy_in(self, obligation: u64, left: u64) -> BuyIn
-        requires { ⌜ self .count ≤ 64 ⌝ }
+        requires { ⌜ self .count ≤ mostOffers ⌝ }
         ensures { λ r. ⌜ r ≡ boughtWith (given obligation left (listed self)) ⌝ }
     {
         let rows = self.rows;
         let n = self.count;
-        let mut bought = [NOTHING_GIVEN; 64];
+        let mut bought = [NOTHING_GIVEN; MOST_OFFERS];
         let mut count = 0;
         let mut rest = left;
         let mut k = 0;

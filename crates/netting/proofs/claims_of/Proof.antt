@@ -6,18 +6,18 @@ use lib.IntN.{pos}
 use lib.ListN.{length, getD}
 use borrow.Author.Needs.{needs}
 use Rattle.basics.proofs.Tables.{filled-more}
-use Rattle.netting.specs.Accounts.{claim}
+use Rattle.netting.specs.Accounts.{memberCount, claim}
 use Rattle.netting.proofs.Debts.{claims-listed}
 use Rattle.netting.proofs.Signed.{read-is}
 use Rattle.netting.proofs.claims_of.Statement.{statement}
 use Rattle.netting.proofs.claims_of.Tie as tie
 
 abbrev Inv-loop : tie.InvT-loop
-Inv-loop accounts claims₀ m₀ claims m = (m ≤ 32) × (length claims ≡ 32)
+Inv-loop accounts claims₀ m₀ claims m = (m ≤ memberCount) × (length claims ≡ memberCount)
     × ((k : ℕ) → k < m → getD claims k 0 ≡ claim (getD accounts k (pos 0)))
 
 abbrev μ-loop : tie.MeasureT-loop
-μ-loop accounts claims₀ m₀ claims m = 32 - m
+μ-loop accounts claims₀ m₀ claims m = memberCount - m
 
 loop-holds : tie.Need-loop-holds Inv-loop μ-loop
 loop-holds c = search needs

@@ -9,18 +9,19 @@ use Rattle.basics.proofs.Sums.{one-most}
 use Rattle.basics.proofs.Tables.{filled-more}
 use Rattle.basics.specs.Lists.{sum}
 use Rattle.netting.specs.Shares.{floorShare, remainder}
+use Rattle.netting.specs.Accounts.{memberCount}
 use Rattle.netting.proofs.Steps.{portion-is, floors-within, portions-are}
 use Rattle.netting.proofs.portions_of.Statement.{statement}
 use Rattle.netting.proofs.portions_of.Tie as tie
 
 abbrev Inv-loop : tie.InvT-loop
-Inv-loop collected claims whole floors₀ remainders₀ m₀ floors remainders m = (m ≤ 32) × (length floors ≡ 32)
-    × (length remainders ≡ 32)
+Inv-loop collected claims whole floors₀ remainders₀ m₀ floors remainders m = (m ≤ memberCount) × (length floors ≡ memberCount)
+    × (length remainders ≡ memberCount)
     × ((k : ℕ) → k < m → getD floors k 0 ≡ floorShare collected claims k)
     × ((k : ℕ) → k < m → getD remainders k 0 ≡ remainder collected claims k)
 
 abbrev μ-loop : tie.MeasureT-loop
-μ-loop collected claims whole floors₀ remainders₀ m₀ floors remainders m = 32 - m
+μ-loop collected claims whole floors₀ remainders₀ m₀ floors remainders m = memberCount - m
 
 sum-of-requires : tie.Need-sum-of-requires Inv-loop μ-loop
 sum-of-requires c κs = search needs

@@ -10,6 +10,7 @@ use Rattle.basics.specs.Lists.{countBelow}
 use Rattle.netting.specs.Portions.{byMember}
 use Rattle.netting.specs.Shares.{comesBefore, rank}
 use Rattle.basics.proofs.Counts.{count-next, count-within}
+use Rattle.netting.specs.Accounts.{memberCount}
 use Rattle.netting.proofs.rank_of.Statement.{statement}
 use Rattle.netting.proofs.rank_of.Tie as tie
 
@@ -17,10 +18,10 @@ abbrev comes : List ℕ → ℕ → ℕ → Bool
 comes remainders m k = comesBefore (byMember remainders) k m
 
 abbrev Inv-loop : tie.InvT-loop
-Inv-loop remainders m ahead₀ k₀ ahead k = (k ≤ 32) × (ahead ≡ countBelow k (comes remainders m))
+Inv-loop remainders m ahead₀ k₀ ahead k = (k ≤ memberCount) × (ahead ≡ countBelow k (comes remainders m))
 
 abbrev μ-loop : tie.MeasureT-loop
-μ-loop remainders m ahead₀ k₀ ahead k = 32 - k
+μ-loop remainders m ahead₀ k₀ ahead k = memberCount - k
 
 loop-holds : tie.Need-loop-holds Inv-loop μ-loop
 unfolding countBelow
@@ -58,7 +59,7 @@ returns : tie.Need-returns Inv-loop μ-loop
 unfolding rank
 returns c =
     let a = c .before .before .args in
-    let h : c .before .loop .k ≡ 32 = omega arith in
+    let h : c .before .loop .k ≡ memberCount = omega arith in
     c .before .loop .inv .1 ∙ ap (λ (n : ℕ). countBelow n (comes (a .remainders) (a .m))) h
 
 pub rank-of-spec : {M : Type 1} → statement M

@@ -8,16 +8,17 @@ use Rattle.basics.proofs.Tables.{filled-more, is-table}
 use Rattle.netting.specs.Portions.{Dividable, shareOf}
 use Rattle.netting.specs.Shares.{share, shares}
 use Rattle.netting.specs.declared.Portions.{Portions}
+use Rattle.netting.specs.Accounts.{memberCount}
 use Rattle.netting.proofs.Steps.{dividable, floor-small, share-made}
 use Rattle.netting.proofs.shares_of.Statement.{statement}
 use Rattle.netting.proofs.shares_of.Tie as tie
 
 abbrev Inv-loop : tie.InvT-loop
-Inv-loop collected claims portions payouts₀ m₀ payouts m = (m ≤ 32) × (length payouts ≡ 32)
+Inv-loop collected claims portions payouts₀ m₀ payouts m = (m ≤ memberCount) × (length payouts ≡ memberCount)
     × ((k : ℕ) → k < m → getD payouts k 0 ≡ share collected claims k)
 
 abbrev μ-loop : tie.MeasureT-loop
-μ-loop collected claims portions payouts₀ m₀ payouts m = 32 - m
+μ-loop collected claims portions payouts₀ m₀ payouts m = memberCount - m
 
 claims-of-requires : tie.Need-claims-of-requires Inv-loop μ-loop
 claims-of-requires c κs = c .pre .bounded
@@ -74,7 +75,7 @@ returns c =
     let v = c .before .loop .inv in
     let n = c .before .before .before .before .args .collected in
     let gs = c .before .before .before .claims-of in
-    is-table 32 (share n (gs .result)) (c .before .loop .payouts) 0 (v .1) (λ k l. v .2 k (omega arith))
+    is-table memberCount (share n (gs .result)) (c .before .loop .payouts) 0 (v .1) (λ k l. v .2 k (omega arith))
     ∙ ap (shares n) (gs .ensures)
 
 pub shares-of-spec : {M : Type 1} → statement M

@@ -6,14 +6,15 @@ use lib.ListN.{getD, drop}
 use borrow.Author.Needs.{needs}
 use Rattle.basics.proofs.Sums.{rest-of, none-left}
 use Rattle.basics.specs.Lists.{sum}
+use Rattle.netting.specs.Accounts.{memberCount}
 use Rattle.netting.proofs.sum_of.Statement.{statement}
 use Rattle.netting.proofs.sum_of.Tie as tie
 
 abbrev Inv-loop : tie.InvT-loop
-Inv-loop amounts so-far₀ m₀ so-far m = (m ≤ 32) × (so-far + sum (drop m amounts) ≡ sum amounts)
+Inv-loop amounts so-far₀ m₀ so-far m = (m ≤ memberCount) × (so-far + sum (drop m amounts) ≡ sum amounts)
 
 abbrev μ-loop : tie.MeasureT-loop
-μ-loop amounts so-far₀ m₀ so-far m = 32 - m
+μ-loop amounts so-far₀ m₀ so-far m = memberCount - m
 
 loop-holds : tie.Need-loop-holds Inv-loop μ-loop
 loop-holds c = search needs

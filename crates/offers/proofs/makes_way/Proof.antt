@@ -3,14 +3,14 @@ use borrow.Author.Needs.{needs}
 use Rattle.offers.proofs.makes_way.Statement.{statement}
 use Rattle.offers.proofs.makes_way.Tie as tie
 
-returns : tie.Need-returns
-returns c = search needs
-
 goes-ahead-requires : tie.Need-goes-ahead-requires
 goes-ahead-requires c κs = search needs
+
+returns : tie.Need-returns
+returns c = search needs
 
 returns-2 : tie.Need-returns-2
 returns-2 c = rw (c .before .if1 .left) (c .goes-ahead .ensures)
 
 pub makes-way-spec : {M : Type 1} → statement M
-makes-way-spec = tie.close (tie.spec returns goes-ahead-requires returns-2)
+makes-way-spec = tie.close (tie.spec goes-ahead-requires returns returns-2)

@@ -1,4 +1,4 @@
--- `nth_after` meets its contract.
+-- `nth_after` meets its contract. It calls itself with a count that is smaller by one, and the count is the measure.
 use Prim.Native.Nat.{ℕ, _<_}
 use native.Mathlib.Nat.{pos-of-ne-zero}
 use native.Mathlib.Omega.{arith}
@@ -12,103 +12,69 @@ use Rattle.calendar.proofs.ClosedDays.+nth_after.Tie.{close}
 use Rattle.calendar.proofs.Walks.{nth-none, nth-more}
 use Rattle.calendar.proofs.ClosedDays.nth_after.Reads as nth-after
 use Rattle.calendar.proofs.ClosedDays.nth_after.Kinds as nth-after-kinds
-use Rattle.calendar.proofs.ClosedDays.+nth_after.Lts-nth_after as nth-after-lts
+use Rattle.calendar.proofs.ClosedDays.+nth_after.Lts-nth_after as lts
 use Rattle.calendar.proofs.ClosedDays.next_after.Reads as next-after-reads
 
-abbrev μ-nth-after : Measures 0 nth-after-kinds.ps ℕ
-μ-nth-after κs a = a .1 .1 .0 .0
+abbrev μ : Measures 0 nth-after-kinds.ps ℕ
+μ κs a = a .1 .1 .0 .0
 
-abbrev nth-after-at : ℕ → In 0 nth-after-kinds.ps
-nth-after-at t = and 0 nth-after-kinds.ps (is 0 nth-after-kinds.ps μ-nth-after t) nth-after.Pre
+-- what is shown of the call where the measure is t
+module _ (t : ℕ) where
+  abbrev at : In 0 nth-after-kinds.ps
+  at = and 0 nth-after-kinds.ps (is 0 nth-after-kinds.ps μ t) nth-after.Pre
 
-abbrev nth-after-below : ℕ → In 0 nth-after-kinds.ps
-nth-after-below t =
-    and 0 nth-after-kinds.ps (falls 0 nth-after-kinds.ps _<_ μ-nth-after t) nth-after.Pre
+  -- what is known of the calls within it
+  abbrev known : lts.Claims
+  known = (
+    and 0 nth-after-kinds.ps (falls 0 nth-after-kinds.ps _<_ μ t) nth-after.Pre,
+    nth-after.Post,
+    next-after-reads.Asked,
+    next-after-reads.Learnt,
+  )
 
-nth-after-returns : (t : ℕ) → nth-after-lts.Need-returns (
-  nth-after-below t,
-  nth-after.Post,
-  next-after-reads.Asked,
-  next-after-reads.Learnt,
-) (nth-after-at t) nth-after.Post
-unfolding nthAfter
-nth-after-returns t c = sym (nth-none _ _ _ (c .if1 .taken))
+  returns : lts.Need-returns known at nth-after.Post
+  unfolding nthAfter
+  returns c = sym (nth-none _ _ _ (c .if1 .taken))
 
-nth-after-sub-t8 : (t : ℕ) → nth-after-lts.Need-sub-t8 (
-  nth-after-below t,
-  nth-after.Post,
-  next-after-reads.Asked,
-  next-after-reads.Learnt,
-) (nth-after-at t) nth-after.Post
-nth-after-sub-t8 t c = pos-of-ne-zero (c .if1 .left)
+  sub-t8 : lts.Need-sub-t8 known at nth-after.Post
+  sub-t8 c = pos-of-ne-zero (c .if1 .left)
 
-nth-after-nth-after-requires : (t : ℕ) → nth-after-lts.Need-nth-after-requires (
-  nth-after-below t,
-  nth-after.Post,
-  next-after-reads.Asked,
-  next-after-reads.Learnt,
-) (nth-after-at t) nth-after.Post
-nth-after-nth-after-requires t c κs = (omega (arith, pos-of-ne-zero (c .if1 .left)), c .before .pre .1)
+  nth-after-requires : lts.Need-nth-after-requires known at nth-after.Post
+  nth-after-requires c κs = (omega (arith, pos-of-ne-zero (c .if1 .left)), c .before .pre .1)
 
-nth-after-enum-known-previous : (t : ℕ) → nth-after-lts.Need-enum-known-previous (
-  nth-after-below t,
-  nth-after.Post,
-  next-after-reads.Asked,
-  next-after-reads.Learnt,
-) (nth-after-at t) nth-after.Post
-nth-after-enum-known-previous t c = search needs
+  enum-known-previous : lts.Need-enum-known-previous known at nth-after.Post
+  enum-known-previous c = search needs
 
-nth-after-enum-told : (t : ℕ) → nth-after-lts.Need-enum-told (
-  nth-after-below t,
-  nth-after.Post,
-  next-after-reads.Asked,
-  next-after-reads.Learnt,
-) (nth-after-at t) nth-after.Post
-nth-after-enum-told t c = search needs
+  enum-told : lts.Need-enum-told known at nth-after.Post
+  enum-told c = search needs
 
-nth-after-returns-2 : (t : ℕ) → nth-after-lts.Need-returns-2 (
-  nth-after-below t,
-  nth-after.Post,
-  next-after-reads.Asked,
-  next-after-reads.Learnt,
-) (nth-after-at t) nth-after.Post
-unfolding nthAfter nextOf
-nth-after-returns-2 t c = sym (nth-more _ _ _ (pos-of-ne-zero (c .before .before .before .if1 .left)) ∙ rw (sym (c .before .before .nth-after .ensures) ∙ c .enum-told .given .1))
+  returns-2 : lts.Need-returns-2 known at nth-after.Post
+  unfolding nthAfter nextOf
+  returns-2 c =
+      let o = c .before .before in
+      sym
+      (nth-more _ _ _ (pos-of-ne-zero (o .before .if1 .left))
+      ∙ rw (sym (o .nth-after .ensures) ∙ c .enum-told .given .1))
 
-nth-after-next-after-requires : (t : ℕ) → nth-after-lts.Need-next-after-requires (
-  nth-after-below t,
-  nth-after.Post,
-  next-after-reads.Asked,
-  next-after-reads.Learnt,
-) (nth-after-at t) nth-after.Post
-nth-after-next-after-requires t c κs = search needs
+  next-after-requires : lts.Need-next-after-requires known at nth-after.Post
+  next-after-requires c κs = search needs
 
-nth-after-returns-3 : (t : ℕ) → nth-after-lts.Need-returns-3 (
-  nth-after-below t,
-  nth-after.Post,
-  next-after-reads.Asked,
-  next-after-reads.Learnt,
-) (nth-after-at t) nth-after.Post
-unfolding nthAfter nextOf
-nth-after-returns-3 t c =
-    let o = c .before .before in
-    c .next-after .ensures
-    ∙ sym (nth-more _ _ _ (pos-of-ne-zero (o .before .before .before .if1 .left)) ∙ rw (sym (o .before .before .nth-after .ensures) ∙ o .previous .given .1))
+  returns-3 : lts.Need-returns-3 known at nth-after.Post
+  unfolding nthAfter nextOf
+  returns-3 c =
+      let o = c .before .before in
+      c .next-after .ensures
+      ∙ sym
+      (nth-more _ _ _ (pos-of-ne-zero (o .before .before .before .if1 .left))
+      ∙ rw (sym (o .before .before .nth-after .ensures) ∙ o .previous .given .1))
 
 pub +nth-after-spec : {M : Type 1} → statement M
-+nth-after-spec = close μ-nth-after λ t. nth-after-lts.spec (
-  nth-after-below t,
-  nth-after.Post,
-  next-after-reads.Asked,
-  next-after-reads.Learnt,
-)
-    (nth-after-at t)
-    nth-after.Post
-    (nth-after-returns t)
-    (nth-after-sub-t8 t)
-    (nth-after-nth-after-requires t)
-    (nth-after-enum-known-previous t)
-    (nth-after-enum-told t)
-    (nth-after-returns-2 t)
-    (nth-after-next-after-requires t)
-    (nth-after-returns-3 t)
++nth-after-spec = close μ λ t. lts.spec (known t) (at t) nth-after.Post
+    (returns t)
+    (sub-t8 t)
+    (nth-after-requires t)
+    (enum-known-previous t)
+    (enum-told t)
+    (returns-2 t)
+    (next-after-requires t)
+    (returns-3 t)

@@ -6,7 +6,7 @@ use mathlib.Core.Path.{_≡_, refl}
 use lib.ListN.{length, getD}
 use borrow.Author.Needs.{needs}
 use Rattle.basics.proofs.Cases.{length-mapped}
-use Rattle.offers.specs.Held.{noOffer}
+use Rattle.offers.specs.Held.{mostOffers, noOffer}
 use Rattle.offers.proofs.Passing.{Passed, gives-within, passed-none, passed-same, passed-gives, passed-over, passed-all}
 use Rattle.offers.proofs.Offers.buy_in.Statement.{statement}
 use Rattle.offers.proofs.Offers.buy_in.Tie as tie
@@ -54,7 +54,7 @@ loop-less c = search needs
 loop-again : tie.Need-loop-again Inv-loop μ-loop
 loop-again c =
     let known = c .before .before .before .before in
-    let size : length (known .before .before .args .self .rows) ≡ 64 = search (length-mapped, needs) in
+    let size : length (known .before .before .args .self .rows) ≡ mostOffers = search (length-mapped, needs) in
     let few = known .before .before .pre in
     let more = c .before .before .before .loop-test .taken in
     let q = c .before .quantity-from .ensures in

@@ -8,6 +8,7 @@ use lib.ListN.{length}
 use borrow.Author.Needs.{needs}
 use Rattle.basics.proofs.Cases.{length-mapped}
 use Rattle.offers.specs.declared.Offer.{Offer}
+use Rattle.offers.specs.Held.{mostOffers}
 use Rattle.offers.proofs.Carrying.{Carried, carried-begins, carried-step, carried-ends}
 use Rattle.offers.proofs.Offers.insert.Statement.{statement}
 use Rattle.offers.proofs.Offers.insert.Tie as tie
@@ -51,7 +52,7 @@ loop-less c = search needs
 loop-again : tie.Need-loop-again Inv-loop μ-loop
 loop-again c =
     let known = c .before .before .before .before .before in
-    let size : length (known .before .before .args .self .rows) ≡ 64 = search (length-mapped, needs) in
+    let size : length (known .before .before .args .self .rows) ≡ mostOffers = search (length-mapped, needs) in
     let now = known .loop in
     carried-step _ _ _ (known .before .before .pre) size (now .rows) (now .carried) (now .moved) _ (now .k) _ _ _
     (now .inv)
@@ -74,7 +75,7 @@ returns : tie.Need-returns Inv-loop μ-loop
 returns c =
     let known = c .before in
     let args = known .before .before .args in
-    let size : length (args .self .rows) ≡ 64 = search (length-mapped, needs) in
+    let size : length (args .self .rows) ≡ mostOffers = search (length-mapped, needs) in
     let now = known .loop in
     ap (λ (l : List Offer). record { rows = l; count = args .self .count + 1 })
     (carried-ends _ _ _ (known .before .before .pre) size (now .rows) (now .carried) (now .moved) (now .k) (now .inv)
