@@ -7,21 +7,20 @@ use mathlib.Core.List.{List}
 use mathlib.Core.Logic.{⊎-elim}
 use lib.ListN.{length}
 use borrow.Author.Tests.{le-leb, lt-ltb}
-use Rattle.basics.specs.Lists.Every.{nobody}
-use Rattle.basics.specs.Lists.Sorted.{empty}
 use Rattle.basics.proofs.Cases.{below-or-not}
 use Rattle.calendar.specs.declared.Day.{Day}
 use Rattle.calendar.specs.declared.NextDay.{NextDay}
 use Rattle.calendar.specs.declared.NextDay.the-variants.{At, Never}
-use Rattle.calendar.specs.Closed.{listed}
 use Rattle.calendar.specs.Days.{ageAt}
 use Rattle.calendar.proofs.Next.{FirstAfter, next-at}
 use Rattle.calendar.proofs.Ages.{age-next, age-to-come}
 use Rattle.amounts.specs.Amounts.{mostClosePrice, mostRate}
+use Rattle.ledger.specs.declared.Deal.{Deal}
 use Rattle.ledger.specs.declared.Obligation.{Obligation}
 use Rattle.ledger.specs.declared.Ledger.{Ledger}
 use Rattle.ledger.specs.Obligations.{isDue}
 use Rattle.ledger.specs.Ledger.{obligationAt, ValidLedger}
+use Rattle.ledger.proofs.Valid.{no-offers-valid}
 use Rattle.offers.specs.Held.{listed as listedOffers}
 use Rattle.closing.specs.declared.DayEnd.{DayEnd}
 use Rattle.closing.specs.Close.{closedAt, closedLedger}
@@ -36,8 +35,8 @@ use Rattle.refusals.proofs.Refusals.{done-by, refused-with}
 use Rattle.refusals.proofs.Ending.{Given, close-given, close-at}
 use Rattle.book.specs.declared.Book.{Book}
 use Rattle.book.specs.declared.Closed.{Closed}
-use Rattle.book.specs.Book.{ageOf, Valid}
-use Rattle.book.specs.Closing.{nextDay, dayEnd, linesOf, closedBook, closeRefused, closeNumber, closeDone, closeBy, close, closeWords}
+use Rattle.book.specs.Book.{withDay, closedOf, todayOf, ageOf, Valid}
+use Rattle.book.specs.Close.{nextDay, dayEnd, linesOf, closedDay, closedBook, closeRefused, closeNumber, closeDone, closeBy, close, closeWords}
 use Rattle.book.proofs.Outcomes.{close-case}
 
 module _ (b : Book) (v : Valid b) (price rate : ℕ) (p : price ≤ mostClosePrice) (r : rate ≤ mostRate) where
@@ -54,65 +53,60 @@ module _ (b : Book) (v : Valid b) (price rate : ℕ) (p : price ≤ mostClosePri
   -- what the Close of the ledger asks
   pub closable : (ws : List ℕ) → fewestWords ≤ length ws → Closable d l ws
   closable ws long = record {
-    valid = v .ledger-valid;
-    apart = omega (arith, v .notice-before, v .grace-before);
-    rises = v .closed-rises;
+    valid = v .ledger;
+    setup = v .setup;
     price-most = p;
     rate-most = r;
-    accounts-near = λ m. omega (arith, v .accounts-near m, v .today-most);
+    accounts-near = λ m. omega (arith, v .accounts-near m, v .day .today-most);
     long = long;
   }
 
   pub after-closed : (n : ℕ) → n < l .count → after n ≡ closedAt d (listedOffers (l .offers)) (l .obligations) n .obligation
-  after-closed n h = rows-closed d (l .obligations) (listedOffers (l .offers)) (l .count) n h (omega (arith, v .ledger-valid .size, v .ledger-valid .few))
+  after-closed n h = rows-closed d (l .obligations) (listedOffers (l .offers)) (l .count) n h (omega (arith, v .ledger .size, v .ledger .few))
 
   pub after-goes : (n : ℕ) → n < l .count → Goes (obligationAt l n) (after n)
-  after-goes n h = rw (after-closed n h) (closed-goes d (listedOffers (l .offers)) n (obligationAt l n) p (v .ledger-valid .sound n h))
+  after-goes n h = rw (after-closed n h) (closed-goes d (listedOffers (l .offers)) n (obligationAt l n) p (v .ledger .sound n h))
 
   charged : Charged (l .accounts) (closedLedger d l .accounts) (1500000 * l .count)
-  charged = charged-up-to (b .today) price rate l (v .ledger-valid) p r (l .count) (omega arith)
+  charged = charged-up-to (todayOf b) price rate l (v .ledger) p r (l .count) (omega arith)
 
   closed-ledger-valid : ValidLedger (closedLedger d l)
   closed-ledger-valid = record {
-    size = rows-length d (l .obligations) (listedOffers (l .offers)) (l .count) ∙ v .ledger-valid .size;
-    few = v .ledger-valid .few;
+    size = rows-length d (l .obligations) (listedOffers (l .offers)) (l .count) ∙ v .ledger .size;
+    few = v .ledger .few;
     sound = λ n h. after-goes n h .sound;
-    offers-size = refl;
-    offers-few = omega arith;
-    offers-sound = nobody;
-    offers-ranked = empty;
-    accounts-size = charged .size ∙ v .ledger-valid .accounts-size;
-    accounts-even = charged .even ∙ v .ledger-valid .accounts-even;
+    offers = no-offers-valid (l .count);
+    accounts = record { size = charged .size ∙ v .ledger .accounts .size; even = charged .even ∙ v .ledger .accounts .even };
   }
 
   module _ (next : Day) (q : nextDay b ≡ At next) where
-    abbrev first : FirstAfter (listed (b .closed)) (b .today .0) (next .0)
-    first = next-at (listed (b .closed)) (b .today) next q .0
+    abbrev first : FirstAfter (closedOf b) (todayOf b .0) (next .0)
+    first = next-at (closedOf b) (todayOf b) next q .0
 
     -- the age of an obligation after the Close
     abbrev older : Obligation → ℕ
-    older o = ageAt (listed (b .closed)) (o .day) next .0
+    older o = ageAt (closedOf b) (o .deal .day) next .0
 
     -- what is outstanding after the Close has not come to the last day
-    still-young : (n : ℕ) → n < l .count → 1 ≤ after n .parts .outstanding → older (after n) ≤ b .terms .last .0
+    still-young : (n : ℕ) → n < l .count → 1 ≤ after n .parts .outstanding → older (after n) ≤ b .setup .terms .last .0
     unfolding ageOf isDue
     still-young n h some =
         let o = obligationAt l n in
         let g = after-goes n h in
-        let young = v .young n h (omega (arith, g .later .less)) in
-        let same : older (after n) ≡ older o = ap (λ (j : Day). ageAt (listed (b .closed)) j next .0) (g .later .day) in
+        let young = v .timely n h .young (omega (arith, g .later .less)) in
+        let same : older (after n) ≡ older o = ap (λ (d : Deal). ageAt (closedOf b) (d .day) next .0) (g .later .deal) in
         ⊎-elim
-        (λ (z : b .today .0 < o .day .0). omega (arith, same, age-to-come (listed (b .closed)) (o .day) (b .today) next (v .day-clears n h) z q))
-        (λ (z : o .day .0 ≤ b .today .0).
-        let due : isDue (b .today) o ≡ true = rw (le-leb (o .day .0) (b .today .0) z, lt-ltb 0 (o .parts .outstanding) (omega (arith, g .later .less))) in
-        let one = age-next (listed (b .closed)) (o .day) (b .today) next z q in
-        omega (arith, same, one, below (ageOf b o) (b .terms .last .0) young (λ e. gone n h due e some)))
-        (below-or-not (b .today .0) (o .day .0))
+        (λ (z : todayOf b .0 < o .deal .day .0). omega (arith, same, age-to-come (closedOf b) (o .deal .day) (todayOf b) next (v .timely n h .clears) z q))
+        (λ (z : o .deal .day .0 ≤ todayOf b .0).
+        let due : isDue (todayOf b) o ≡ true = rw (le-leb (o .deal .day .0) (todayOf b .0) z, lt-ltb 0 (o .parts .outstanding) (omega (arith, g .later .less))) in
+        let one = age-next (closedOf b) (o .deal .day) (todayOf b) next z q in
+        omega (arith, same, one, below (ageOf b o) (b .setup .terms .last .0) young (λ e. gone n h due e some)))
+        (below-or-not (todayOf b .0) (o .deal .day .0))
       where
         below : (a m : ℕ) → a ≤ m → (a ≡ m → ⊥) → a < m
         below a m x y = omega arith
 
-        gone : (n : ℕ) → n < l .count → isDue (b .today) (obligationAt l n) ≡ true → ageOf b (obligationAt l n) ≡ b .terms .last .0 → 1 ≤ after n .parts .outstanding → ⊥
+        gone : (n : ℕ) → n < l .count → isDue (todayOf b) (obligationAt l n) ≡ true → ageOf b (obligationAt l n) ≡ b .setup .terms .last .0 → 1 ≤ after n .parts .outstanding → ⊥
         gone n h due e some =
             let z = ap (λ (o : Obligation). o .parts .outstanding) (after-closed n h) ∙ last-none d (listedOffers (l .offers)) n (obligationAt l n) due e in
             omega arith
@@ -120,20 +114,13 @@ module _ (b : Book) (v : Valid b) (price rate : ℕ) (p : price ≤ mostClosePri
     pub closed-valid : Valid (closedBook b price rate next)
     unfolding ageOf
     closed-valid = record {
-      closed-size = v .closed-size;
-      closed-few = v .closed-few;
-      closed-rises = v .closed-rises;
-      notice-before = v .notice-before;
-      grace-before = v .grace-before;
-      last-most = v .last-most;
-      today-clears = first .clears;
-      today-most = next-at (listed (b .closed)) (b .today) next q .1;
-      legs-valid = v .legs-valid;
-      ledger-valid = closed-ledger-valid;
+      setup = v .setup;
+      day = record { today-clears = first .clears; today-most = next-at (closedOf b) (todayOf b) next q .1 };
+      legs = v .legs;
+      ledger = closed-ledger-valid;
       room = v .room;
-      day-clears = λ n h. rw (after-goes n h .later .day) (v .day-clears n h);
-      young = still-young;
-      accounts-near = λ m. omega (arith, charged .near m, v .accounts-near m, v .ledger-valid .few, first .later);
+      timely = λ n h. record { clears = rw (after-goes n h .later .deal) (v .timely n h .clears); young = still-young n h };
+      accounts-near = λ m. omega (arith, charged .near m, v .accounts-near m, v .ledger .few, first .later);
     }
 
 -- ---- the answer of a Close and the words of its list
@@ -151,7 +138,7 @@ refused-end b v price rate n ws e z =
 -- done, with the ledger that the Close of the book's ledger gave
 module _ (b : Book) (v : Valid b) (price rate : ℕ) (ws : List ℕ) (e : answer (closeRefusalsIn price rate (length ws)) ≡ 0) (next : Day) (q : nextDay b ≡ At next) where
   abbrev ended : Ledger → Book
-  ended l = record { closed = b .closed; terms = b .terms; today = next; «close_since» = true; legs = b .legs; ledger = l }
+  ended l = withDay (closedDay next) l b
 
   given : Given price rate (length ws)
   given = close-given price rate (length ws) e
@@ -190,6 +177,6 @@ close-fits b price rate ws v =
     (λ next q e.
     omega (
       arith,
-      lines-most (dayEnd b price rate) (b .ledger .obligations) (b .ledger .offers) (omega (arith, v .notice-before, v .grace-before)) (v .ledger-valid .offers-few) (b .ledger .count) (v .ledger-valid .few),
+      lines-most (dayEnd b price rate) (b .ledger .obligations) (b .ledger .offers) (v .setup .terms) (v .ledger .offers .few) (b .ledger .count) (v .ledger .few),
       close-given price rate (length ws) e .long,
     ))

@@ -1,5 +1,5 @@
 -- Open gives a valid book, accepted or refused.
-use Prim.Native.Nat.{ℕ, zero, suc, _≤_, _<_}
+use Prim.Native.Nat.{ℕ, zero, suc, _≤_}
 use native.Mathlib.Omega.{arith}
 use mathlib.Core.Path.{_≡_, refl, sym, ap}
 use mathlib.Core.Bool.{Bool, true, false, _||_, not}
@@ -15,7 +15,7 @@ use Rattle.calendar.specs.Closed.{day, lastDay, mostClosed, risesFrom, closedRe
 use Rattle.calendar.specs.Days.{clearing}
 use Rattle.calendar.proofs.Closed.{given-rises}
 use Rattle.instructions.proofs.Keeping.{none-valid, none-waiting}
-use Rattle.ledger.specs.declared.Terms.{Terms}
+use Rattle.ledger.specs.Setup.{ValidTerms}
 use Rattle.ledger.proofs.Valid.{new-valid}
 use Rattle.book.specs.Book.{Valid}
 use Rattle.book.specs.Open.{termsOf, freshBook, refusedBook}
@@ -26,14 +26,9 @@ zeros (suc n) zero = refl
 zeros (suc n) (suc m) = zeros n m
 
 -- the stages follow one another
-record Stages (t : Terms) : Type 0 where
-  notice-before : t .notice .0 < t .grace .0
-  grace-before : t .grace .0 < t .last .0
-  last-most : t .last .0 ≤ 35
-
-stages : (terms : ℕ) → Stages (termsOf terms)
+stages : (terms : ℕ) → ValidTerms (termsOf terms)
 stages terms =
-    pick-case Stages (eqb terms 0) _ _ (λ e. record { notice-before = omega arith; grace-before = omega arith; last-most = omega arith })
+    pick-case ValidTerms (eqb terms 0) _ _ (λ e. record { notice-before = omega arith; grace-before = omega arith; last-most = omega arith })
     (λ e. record { notice-before = omega arith; grace-before = omega arith; last-most = omega arith })
 
 -- a list of closed days that is not refused is short enough and rises
@@ -49,23 +44,20 @@ pub fresh-valid : (first : Day) (ds : List ℕ) (terms : ℕ) → closedRefused 
     Valid (freshBook first (closedDays ds) terms)
 unfolding closedDays
 fresh-valid first ds terms taken most clears =
-    let s = stages terms in
     let l = length-map ds day in
     let t = closed-taken ds taken in
     record {
-      closed-size = padded-length mostClosed (day 0) (map day ds) (omega (arith, t .0));
-      closed-few = t .0;
-      closed-rises = given-rises ds (t .1);
-      notice-before = s .notice-before;
-      grace-before = s .grace-before;
-      last-most = s .last-most;
-      today-clears = clears;
-      today-most = most;
-      legs-valid = none-valid;
-      ledger-valid = new-valid;
+      setup = record {
+        closed-size = padded-length mostClosed (day 0) (map day ds) (omega (arith, t .0));
+        closed-few = t .0;
+        closed-rises = given-rises ds (t .1);
+        terms = stages terms;
+      };
+      day = record { today-clears = clears; today-most = most };
+      legs = none-valid;
+      ledger = new-valid;
       room = omega (arith, none-waiting);
-      day-clears = λ n h. absurd (omega arith);
-      young = λ n h k. absurd (omega arith);
+      timely = λ n h. absurd (omega arith);
       accounts-near = λ m. omega (arith, ap natAbs (zeros 32 m));
     }
 

@@ -10,7 +10,6 @@ use Rattle.basics.specs.Choice.{pick}
 use Rattle.basics.proofs.Cases.{pick-case, or-false}
 use Rattle.basics.proofs.Places.{set-case}
 use Rattle.calendar.specs.declared.Day.{Day}
-use Rattle.calendar.specs.Closed.{listed}
 use Rattle.calendar.specs.Days.{clearing, ageAt}
 use Rattle.calendar.proofs.Ages.{age-early}
 use Rattle.amounts.specs.Amounts.{mostQuantity, mostAmount, mostOfferPrice}
@@ -23,14 +22,16 @@ use Rattle.instructions.specs.Legs.{isWaiting, inState, legAt, withState, withL
 use Rattle.instructions.specs.Match.{fits, lowestFit}
 use Rattle.instructions.proofs.Keeping.{waiting-with, valid-with, leg-sound, waiting-state, valid-state}
 use Rattle.instructions.proofs.Matching.{found-below, fits-all}
+use Rattle.ledger.specs.declared.Part.the-variants.{Delivered}
+use Rattle.ledger.specs.declared.Deal.{Deal}
 use Rattle.ledger.specs.declared.Obligation.{Obligation}
 use Rattle.ledger.specs.declared.Ledger.{Ledger}
-use Rattle.ledger.specs.Obligations.{noObligation, newObligation, wishing, Sound, delivering as deliveringFrom}
+use Rattle.ledger.specs.Obligations.{noObligation, wishing, SoundDeal, Sound, delivering as deliveringFrom}
 use Rattle.ledger.specs.Ledger.{obligationAt, withObligation, withNew, ValidLedger}
-use Rattle.ledger.proofs.Keeping.{new-sound, delivering-sound, wishing-sound, delivering-later, wishing-later}
+use Rattle.ledger.proofs.Keeping.{new-sound, moving-sound, wishing-sound, Later, moving-later, wishing-later}
 use Rattle.book.specs.declared.Book.{Book}
 use Rattle.refusals.specs.Refusals.{answer, outside}
-use Rattle.book.specs.Book.{withLegs, withLedger, ageOf, Valid}
+use Rattle.book.specs.Book.{withLegs, withLedger, closedOf, todayOf, ageOf, Timely, Valid}
 use Rattle.book.specs.Instructing.{newLeg, obligationOf, enteredAlone, enteredWith, enteredBy, enterRefused, enter, withdraw, cancel, deliver}
 use Rattle.refusals.specs.Calls.{enterRefusals, deliverRefusalsOf, offerRefusalsIn}
 use Rattle.book.specs.Buying.{offer}
@@ -40,69 +41,54 @@ use Rattle.book.proofs.Outcomes.{withdraw-case, cancel-case, deliver-ca
 
 -- ---- parts of a book that change
 module _ (b : Book) (v : Valid b) where
-  -- what is asked of each obligation beside its soundness
-  pub record Timely (o : Obligation) : Type 0 where
-    pub clears : clearing (listed (b .closed)) (o .day) ≡ true
-    pub young : 1 ≤ o .parts .outstanding → ageOf b o ≤ b .terms .last .0
-
-  timely-at : (n : ℕ) → n < b .ledger .count → Timely (obligationAt (b .ledger) n)
-  timely-at n h = record { clears = v .day-clears n h; young = v .young n h }
-
   -- other legs and another ledger, with the same accounts
   with-parts-valid : (legs : Legs) (l : Ledger) → ValidLegs legs → ValidLedger l → 2 * l .count + waiting legs ≤ legs .count → l .accounts ≡ b .ledger .accounts →
-      ((n : ℕ) → n < l .count → Timely (obligationAt l n)) → Valid (withLegs legs (withLedger l b))
+      ((n : ℕ) → n < l .count → Timely b (obligationAt l n)) → Valid (withLegs legs (withLedger l b))
   unfolding ageOf
   with-parts-valid legs l g k r a t = record {
-    closed-size = v .closed-size;
-    closed-few = v .closed-few;
-    closed-rises = v .closed-rises;
-    notice-before = v .notice-before;
-    grace-before = v .grace-before;
-    last-most = v .last-most;
-    today-clears = v .today-clears;
-    today-most = v .today-most;
-    legs-valid = g;
-    ledger-valid = k;
+    setup = v .setup;
+    day = v .day;
+    legs = g;
+    ledger = k;
     room = r;
-    day-clears = λ n h. t n h .clears;
-    young = λ n h. t n h .young;
+    timely = λ n h. record { clears = t n h .clears; young = t n h .young };
     accounts-near = λ m. rw a (v .accounts-near m);
   }
 
   with-legs-valid : (legs : Legs) → ValidLegs legs → 2 * b .ledger .count + waiting legs ≤ legs .count → Valid (withLegs legs b)
-  with-legs-valid legs g r = with-parts-valid legs (b .ledger) g (v .ledger-valid) r refl timely-at
+  with-legs-valid legs g r = with-parts-valid legs (b .ledger) g (v .ledger) r refl (v .timely)
 
   with-ledger-valid : (l : Ledger) → ValidLedger l → 2 * l .count + waiting (b .legs) ≤ b .legs .count → l .accounts ≡ b .ledger .accounts →
-      ((n : ℕ) → n < l .count → Timely (obligationAt l n)) → Valid (withLedger l b)
-  with-ledger-valid l k r a t = with-parts-valid (b .legs) l (v .legs-valid) k r a t
+      ((n : ℕ) → n < l .count → Timely b (obligationAt l n)) → Valid (withLedger l b)
+  with-ledger-valid l k r a t = with-parts-valid (b .legs) l (v .legs) k r a t
 
-  aged : (o p : Obligation) → o .day ≡ p .day → ageOf b o ≡ ageOf b p
+  -- an obligation at a later time is timely too
+  later-timely : (o r : Obligation) → Later o r → Timely b o → Timely b r
   unfolding ageOf
-  aged o p d = ap (λ (j : Day). ageAt (listed (b .closed)) j (b .today) .0) d
+  later-timely o r g t =
+      let same = ap (λ (d : Deal). ageAt (closedOf b) (d .day) (todayOf b) .0) (g .deal) in
+      record { clears = rw (g .deal) (t .clears); young = λ q. omega (arith, same, t .young (omega (arith, g .less))) }
 
-  -- an obligation changed, on the same day, with no more outstanding
-  changed-valid : (n : ℕ) (o : Obligation) → n < b .ledger .count → Sound o → o .day ≡ obligationAt (b .ledger) n .day →
-      o .parts .outstanding ≤ obligationAt (b .ledger) n .parts .outstanding → Valid (withLedger (withObligation n o (b .ledger)) b)
-  changed-valid n o h s d less =
-      with-ledger-valid (withObligation n o (b .ledger)) (valid-changed (b .ledger) (v .ledger-valid) n o h s) (v .room) refl
-      (λ k q. set-case Timely (b .ledger .obligations) n k o noObligation (omega (arith, v .ledger-valid .size, v .ledger-valid .few)) (λ e. same) (λ e. timely-at k q))
-    where
-      same : Timely o
-      same = record { clears = rw d (v .day-clears n h); young = λ q. omega (arith, aged o (obligationAt (b .ledger) n) d, v .young n h (omega arith)) }
+  -- an obligation changed to what it is at a later time
+  changed-valid : (n : ℕ) (o : Obligation) → n < b .ledger .count → Sound o → Later (obligationAt (b .ledger) n) o →
+      Valid (withLedger (withObligation n o (b .ledger)) b)
+  changed-valid n o h s g =
+      with-ledger-valid (withObligation n o (b .ledger)) (valid-changed (b .ledger) (v .ledger) n o h s) (v .room) refl
+      (λ k q. set-case (Timely b) (b .ledger .obligations) n k o noObligation (omega (arith, v .ledger .size, v .ledger .few)) (λ e. later-timely _ o g (v .timely n h)) (λ e. v .timely k q))
 
   -- ---- Withdraw
   pub withdraw-valid : (n member : ℕ) → Valid (withdraw b n member .book)
   withdraw-valid n member =
       withdraw-case b (λ r. Valid (r .book)) n member (λ k z. v) (λ h.
-      let w = waiting-state (b .legs) (v .legs-valid) n h Withdrawn in
-      with-legs-valid _ (valid-state (b .legs) (v .legs-valid) n h Withdrawn) (omega (arith, v .room)))
+      let w = waiting-state (b .legs) (v .legs) n h Withdrawn in
+      with-legs-valid _ (valid-state (b .legs) (v .legs) n h Withdrawn) (omega (arith, v .room)))
 
   -- ---- Cancel
   pub cancel-valid : (n member : ℕ) → Valid (cancel b n member .book)
   cancel-valid n member =
       cancel-case b (λ r. Valid (r .book)) n member (λ k z. v) (λ h e.
       let o = obligationAt (b .ledger) n in
-      changed-valid n (wishing member o) h (wishing-sound o member (v .ledger-valid .sound n h)) (wishing-later o member .day) (wishing-later o member .less))
+      changed-valid n (wishing member o) h (wishing-sound o member (v .ledger .sound n h)) (wishing-later o member))
 
   -- ---- Deliver
   pub deliver-valid : (n q : ℕ) → Valid (deliver b n q .book)
@@ -111,7 +97,7 @@ module _ (b : Book) (v : Valid b) where
       deliver-case b (λ r. Valid (r .book)) n q (λ k z. v) (λ h e.
       let o = obligationAt (b .ledger) n in
       let t = ltb-false (o .parts .outstanding) q (passed 15 _ _ e refl .0) in
-      changed-valid n (deliveringFrom q o) h (delivering-sound o q (record { sound = v .ledger-valid .sound n h; enough = t })) (delivering-later o q .day) (delivering-later o q .less))
+      changed-valid n (deliveringFrom q o) h (moving-sound Delivered o q (record { sound = v .ledger .sound n h; enough = t })) (moving-later Delivered o q))
 
   -- ---- Offer
   within : (low high x : ℕ) → outside low high x ≡ false → (low ≤ x) × (x ≤ high)
@@ -126,14 +112,14 @@ module _ (b : Book) (v : Valid b) where
       let p3 = passed 3 _ _ (p2 .1) refl in
       let w2 = within 1 mostQuantity q (p2 .0) in
       let w3 = within 1 mostOfferPrice price (p3 .0) in
-      with-ledger-valid _ (valid-offer (b .ledger) (v .ledger-valid) _ (offers-few _ _ _ _ _ _ f) (record {
+      with-ledger-valid _ (valid-offer (b .ledger) (v .ledger) _ (offers-few _ _ _ _ _ _ f) (record {
         there = h;
         supplier-most = ltb-false 999 supplier (p1 .0);
         quantity-some = w2 .0;
         quantity-most = w2 .1;
         price-some = w3 .0;
         price-most = w3 .1;
-      })) (v .room) refl timely-at)
+      })) (v .room) refl (v .timely))
 
   -- ---- Enter
   -- what an instruction that is not refused is
@@ -143,12 +129,12 @@ module _ (b : Book) (v : Valid b) where
     pub apart : new .member ≡ new .other → ⊥
     pub quantity-within : (1 ≤ new .quantity) × (new .quantity ≤ mostQuantity)
     pub amount-within : (1 ≤ new .amount) × (new .amount ≤ mostAmount)
-    pub clears : clearing (listed (b .closed)) (new .day) ≡ true
-    pub from-today : b .today .0 ≤ new .day .0
+    pub clears : clearing (closedOf b) (new .day) ≡ true
+    pub from-today : todayOf b .0 ≤ new .day .0
     pub day-most : new .day .0 ≤ 60000
     pub room : b .legs .count < 128
 
-  pub good : (new : Leg) → answer (enterRefusals (b .closed) (b .today) (b .legs .count) new) ≡ 0 → Good new
+  pub good : (new : Leg) → answer (enterRefusals (b .setup .«closed_days») (todayOf b) (b .legs .count) new) ≡ 0 → Good new
   unfolding enterRefusals
   good new e =
       let p1 = passed 1 _ _ e refl in
@@ -168,31 +154,48 @@ module _ (b : Book) (v : Valid b) where
         quantity-within = within 1 mostQuantity (new .quantity) (p2 .0);
         amount-within = within 1 mostAmount (new .amount) (p3 .0);
         clears = not-false _ (d .0);
-        from-today = ltb-false (new .day .0) (b .today .0) (f .0);
+        from-today = ltb-false (new .day .0) (todayOf b .0) (f .0);
         day-most = ltb-false 60000 (new .day .0) (f .1);
         room = leb-false 128 (b .legs .count) (p12 .0);
       }
 
   -- the age of what is not due before today is 0
-  fresh-age : (o : Obligation) → b .today .0 ≤ o .day .0 → ageOf b o ≡ 0
+  fresh-age : (o : Obligation) → todayOf b .0 ≤ o .deal .day .0 → ageOf b o ≡ 0
   unfolding ageOf
-  fresh-age o h = age-early (listed (b .closed)) (o .day) (b .today) h
+  fresh-age o h = age-early (closedOf b) (o .deal .day) (todayOf b) h
 
   -- the obligation of two legs that fit
   made-sound : (new old : Leg) → Good new → SoundLeg old → fits old new ≡ true → Sound (obligationOf new old)
   unfolding obligationOf
-  made-sound new old g s f = by (eqb (new .side) 0) (fits-all old new f .member)
+  made-sound new old g s f = new-sound _ (by (eqb (new .side) 0) (fits-all old new f .member))
     where
-      by : (t : Bool) → old .member ≡ new .other →
-          Sound (newObligation (pick t new old .member) (pick t old new .member) (new .quantity) (pick t new old .amount) (new .day))
-      by true e =
-          new-sound (new .member) (old .member) (new .quantity) (new .amount) (new .day)
-          (g .quantity-within .0) (g .quantity-within .1) (g .amount-within .0) (g .amount-within .1)
-          (g .member-below) (omega (arith, g .other-below)) (λ z. g .apart (z ∙ e)) (g .day-most)
-      by false e =
-          new-sound (old .member) (new .member) (new .quantity) (old .amount) (new .day)
-          (g .quantity-within .0) (g .quantity-within .1) (s .amount-some) (s .amount-most)
-          (omega (arith, g .other-below)) (g .member-below) (λ z. g .apart (sym z ∙ e)) (g .day-most)
+      by : (t : Bool) → old .member ≡ new .other → SoundDeal (record {
+        seller = pick t new old .member;
+        buyer = pick t old new .member;
+        quantity = new .quantity;
+        amount = pick t new old .amount;
+        day = new .day;
+      })
+      by true e = record {
+        quantity-some = g .quantity-within .0;
+        quantity-most = g .quantity-within .1;
+        amount-some = g .amount-within .0;
+        amount-most = g .amount-within .1;
+        seller-below = g .member-below;
+        buyer-below = omega (arith, g .other-below);
+        parties-apart = λ z. g .apart (z ∙ e);
+        day-most = g .day-most;
+      }
+      by false e = record {
+        quantity-some = g .quantity-within .0;
+        quantity-most = g .quantity-within .1;
+        amount-some = s .amount-some;
+        amount-most = s .amount-most;
+        seller-below = omega (arith, g .other-below);
+        buyer-below = g .member-below;
+        parties-apart = λ z. g .apart (sym z ∙ e);
+        day-most = g .day-most;
+      }
 
   fits-waits : (old new : Leg) → fits old new ≡ true → waitingOne old ≡ 1
   fits-waits old new f = rw (fits-all old new f .waits)
@@ -203,8 +206,8 @@ module _ (b : Book) (v : Valid b) where
   alone-valid : (new : Leg) → Good new → Valid (enteredAlone b new .book)
   unfolding enteredAlone
   alone-valid new g =
-      let a = valid-with (b .legs) (v .legs-valid) new (g .room) (record { amount-some = g .amount-within .0; amount-most = g .amount-within .1 }) in
-      let w = waiting-with (b .legs) (v .legs-valid) new (g .room) in
+      let a = valid-with (b .legs) (v .legs) new (g .room) (record { amount-some = g .amount-within .0; amount-most = g .amount-within .1 }) in
+      let w = waiting-with (b .legs) (v .legs) new (g .room) in
       with-legs-valid (withLeg new (b .legs)) a (omega (arith, v .room, one-most new))
 
   -- there is room for the obligation of a match
@@ -212,7 +215,7 @@ module _ (b : Book) (v : Valid b) where
   matched-room new k g e =
       let f = found-below (b .legs) new k e in
       let one = fits-waits (legAt (b .legs) k) new (f .1) in
-      let w = waiting-state (b .legs) (v .legs-valid) k (f .0) Withdrawn in
+      let w = waiting-state (b .legs) (v .legs) k (f .0) Withdrawn in
       (omega (arith, f .0, g .room), omega (arith, v .room, g .room))
 
   matched-valid : (new : Leg) (k : ℕ) → Good new → lowestFit (b .legs) new ≡ With k → Valid (enteredWith b new k .book)
@@ -221,25 +224,25 @@ module _ (b : Book) (v : Valid b) where
       let f = found-below (b .legs) new k e in
       let n = b .ledger .count in
       let old = legAt (b .legs) k in
-      let s = leg-sound (b .legs) (v .legs-valid) k (f .0) in
+      let s = leg-sound (b .legs) (v .legs) k (f .0) in
       let one = fits-waits old new (f .1) in
-      let w1 = waiting-state (b .legs) (v .legs-valid) k (f .0) (Matched n) in
+      let w1 = waiting-state (b .legs) (v .legs) k (f .0) (Matched n) in
       let legs = withState k (Matched n) (b .legs) in
-      let v1 = valid-state (b .legs) (v .legs-valid) k (f .0) (Matched n) in
+      let v1 = valid-state (b .legs) (v .legs) k (f .0) (Matched n) in
       let w2 = waiting-with legs v1 (inState (Matched n) new) (g .room) in
       let o = obligationOf new old in
       let room = matched-room new k g e .1 in
       with-parts-valid (withLeg (inState (Matched n) new) legs) (withNew o (b .ledger))
       (valid-with legs v1 (inState (Matched n) new) (g .room) (record { amount-some = g .amount-within .0; amount-most = g .amount-within .1 }))
-      (valid-more (b .ledger) (v .ledger-valid) o room (made-sound new old g s (f .1)))
+      (valid-more (b .ledger) (v .ledger) o room (made-sound new old g s (f .1)))
       (omega (arith, v .room))
       refl
-      (λ m h. set-case Timely (b .ledger .obligations) n m o noObligation (omega (arith, v .ledger-valid .size)) (λ q. made o refl) (λ q. timely-at m (below m n h q)))
+      (λ m h. set-case (Timely b) (b .ledger .obligations) n m o noObligation (omega (arith, v .ledger .size)) (λ q. made o refl) (λ q. v .timely m (below m n h q)))
     where
       below : (m n : ℕ) → m < n + 1 → (m ≡ n → ⊥) → m < n
       below m n h q = omega arith
 
-      made : (o : Obligation) → o .day ≡ new .day → Timely o
+      made : (o : Obligation) → o .deal .day ≡ new .day → Timely b o
       made o d = record { clears = rw d (g .clears); young = λ q. omega (arith, fresh-age o (omega (arith, g .from-today, ap (λ (j : Day). j .0) d))) }
 
   entered-valid : (new : Leg) (r : Fit) → Good new → lowestFit (b .legs) new ≡ r → Valid (enteredBy b new r .book)

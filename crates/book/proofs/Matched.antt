@@ -9,7 +9,7 @@ use Rattle.book.specs.Instructing.{obligationOf}
 
 -- E8, Enter: the obligation has the amount of the leg that delivers, whichever of the two is new
 pub made-amount : (new old : Leg) → fits old new ≡ true →
-    (new .side ≡ 0 → obligationOf new old .amount ≡ new .amount) × (old .side ≡ 0 → obligationOf new old .amount ≡ old .amount)
+    (new .side ≡ 0 → obligationOf new old .deal .amount ≡ new .amount) × (old .side ≡ 0 → obligationOf new old .deal .amount ≡ old .amount)
 unfolding obligationOf
 made-amount new old f = (
   λ e. rw (eq-eqb (new .side) 0 e),

@@ -23,9 +23,10 @@ use Rattle.book.specs.declared.Done.{Done}
 use Rattle.book.specs.declared.Cancelled.{Cancelled}
 use Rattle.book.specs.declared.Delivered.{Delivered}
 use Rattle.book.specs.declared.Closed.{Closed}
+use Rattle.book.specs.Book.{todayOf}
 use Rattle.book.specs.Instructing.{withdrawRefusals, doneRefused, withdrawDone, withdrawBy, withdraw, cancelRefused, cancelDone, cancel, deliverRefused, deliverDone, deliver}
 use Rattle.book.specs.Buying.{offerRefusalsFor, offerDone, offer}
-use Rattle.book.specs.Closing.{nextDay, linesOf, closeRefused, closeDone, closeBy, close, closeWords}
+use Rattle.book.specs.Close.{nextDay, linesOf, closeRefused, closeDone, closeBy, close, closeWords}
 
 module _ (b : Book) where
   pub withdraw-case : (P : Done → Type 0) (n member : ℕ) → ((k : ℕ) → (k ≡ 0 → ⊥) → P (doneRefused b k)) →
@@ -45,11 +46,11 @@ module _ (b : Book) where
       (λ h i e. g h e)
 
   pub deliver-case : (P : Delivered → Type 0) (n q : ℕ) → ((k : ℕ) → (k ≡ 0 → ⊥) → P (deliverRefused b k)) →
-      (n < b .ledger .count → answer (deliverRefusalsOf (b .today) (obligationAt (b .ledger) n) q) ≡ 0 → P (deliverDone b n q (obligationAt (b .ledger) n))) →
+      (n < b .ledger .count → answer (deliverRefusalsOf (todayOf b) (obligationAt (b .ledger) n) q) ≡ 0 → P (deliverDone b n q (obligationAt (b .ledger) n))) →
       P (deliver b n q)
   unfolding deliver
   deliver-case P n q f g =
-      fetch-case (deliverRefusalsIn q) (λ o. deliverRefusalsOf (b .today) o q) (deliverDone b n q) (deliverRefused b) P (b .ledger) n refl f
+      fetch-case (deliverRefusalsIn q) (λ o. deliverRefusalsOf (todayOf b) o q) (deliverDone b n q) (deliverRefused b) P (b .ledger) n refl f
       (λ h i e. g h e)
 
   pub offer-case : (P : Done → Type 0) (n supplier q price : ℕ) → ((k : ℕ) → (k ≡ 0 → ⊥) → P (doneRefused b k)) →

@@ -21,34 +21,23 @@ zero-at (suc n) (suc m) = zero-at n m
 
 -- the accounts are within what a Month asks
 pub accounts-bounded : (b : Book) → Valid b → Bounded (b .ledger .accounts)
-accounts-bounded b v m = omega (arith, v .accounts-near m, v .today-most)
+accounts-bounded b v m = omega (arith, v .accounts-near m, v .day .today-most)
 
 pub paid-valid : (b : Book) → Valid b → Valid (monthBook b)
 unfolding balance ageOf
 paid-valid b v = record {
-  closed-size = v .closed-size;
-  closed-few = v .closed-few;
-  closed-rises = v .closed-rises;
-  notice-before = v .notice-before;
-  grace-before = v .grace-before;
-  last-most = v .last-most;
-  today-clears = v .today-clears;
-  today-most = v .today-most;
-  legs-valid = v .legs-valid;
-  ledger-valid = record {
-    size = v .ledger-valid .size;
-    few = v .ledger-valid .few;
-    sound = v .ledger-valid .sound;
-    offers-size = v .ledger-valid .offers-size;
-    offers-few = v .ledger-valid .offers-few;
-    offers-sound = v .ledger-valid .offers-sound;
-    offers-ranked = v .ledger-valid .offers-ranked;
-    accounts-size = refl;
-    accounts-even = refl;
+  setup = v .setup;
+  day = record { today-clears = v .day .today-clears; today-most = v .day .today-most };
+  legs = v .legs;
+  ledger = record {
+    size = v .ledger .size;
+    few = v .ledger .few;
+    sound = v .ledger .sound;
+    offers = v .ledger .offers;
+    accounts = record { size = refl; even = refl };
   };
   room = v .room;
-  day-clears = v .day-clears;
-  young = v .young;
+  timely = λ n h. record { clears = v .timely n h .clears; young = v .timely n h .young };
   accounts-near = λ m. rw (zero-at 32 m) (omega arith);
 }
 

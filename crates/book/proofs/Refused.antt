@@ -30,9 +30,10 @@ use Rattle.book.specs.declared.Shown.{Shown}
 use Rattle.book.specs.declared.Balance.{Balance}
 use Rattle.book.specs.declared.Looked.{Looked}
 use Rattle.book.specs.Open.{openRefusals, openRefused, opened}
+use Rattle.book.specs.Book.{todayOf}
 use Rattle.book.specs.Instructing.{newLeg, enteredAlone, enteredWith, enteredBy, enterRefused, enter, withdrawRefusals, doneRefused, withdrawBy, withdraw, cancelRefusals, cancelRefused, cancelDone, cancel, deliverRefusals, deliverRefused, deliverDone, deliver}
 use Rattle.book.specs.Buying.{offerRefusalsFor, offerRefusals, offerDone, offer}
-use Rattle.book.specs.Closing.{nextDay, closeRefused, closeBy, close}
+use Rattle.book.specs.Close.{nextDay, closeRefused, closeBy, close}
 use Rattle.book.specs.Month.{month}
 use Rattle.book.specs.Reading.{statusRefusals, statusRefused, statusDone, status, accountRefused, account, Looks}
 
@@ -48,11 +49,11 @@ module _ (b : Book) where
   entered-zero new (With k) = refl
 
   pub enter-refuses : (member other side q a : ℕ) (j : Day) →
-      Refuses (enterRefusals (b .closed) (b .today) (b .legs .count) (newLeg member other side q a j)) (enter b member other side q a j .answer)
+      Refuses (enterRefusals (b .setup .«closed_days») (todayOf b) (b .legs .count) (newLeg member other side q a j)) (enter b member other side q a j .answer)
   unfolding enter enterRefusals
   enter-refuses member other side q a j =
       let new = newLeg member other side q a j in
-      outcome-refuses (λ (r : Entered). r .answer) (enterRefusals (b .closed) (b .today) (b .legs .count) new) _ (enterRefused b) refl
+      outcome-refuses (λ (r : Entered). r .answer) (enterRefusals (b .setup .«closed_days») (todayOf b) (b .legs .count) new) _ (enterRefused b) refl
       (entered-zero new (lowestFit (b .legs) new)) (λ n. refl)
 
   pub withdraw-refuses : (leg member : ℕ) → Refuses (withdrawRefusals (fetchedLeg (b .legs) leg) member) (withdraw b leg member .answer)
@@ -72,7 +73,7 @@ module _ (b : Book) where
   pub deliver-refuses : (n q : ℕ) → Refuses (deliverRefusals b n q) (deliver b n q .answer)
   unfolding deliver deliverRefusals deliverRefusalsOf
   deliver-refuses n q =
-      fetch-refuses (deliverRefusalsIn q) (λ o. deliverRefusalsOf (b .today) o q) (deliverDone b n q) (deliverRefused b)
+      fetch-refuses (deliverRefusalsIn q) (λ o. deliverRefusalsOf (todayOf b) o q) (deliverDone b n q) (deliverRefused b)
       (λ (r : Delivered). r .answer) (fetched (b .ledger) n) refl (λ o. refl) (λ o. refl) (λ k. refl)
 
   pub offer-refuses : (n supplier q price : ℕ) → Refuses (offerRefusals b n supplier q price) (offer b n supplier q price .answer)
@@ -89,10 +90,10 @@ module _ (b : Book) where
       by Never = record { printed = is-printed (closeRefusals price rate words Never) refl; given = refl }
       by (At next) = outcome-refuses (λ (r : Closed). r .answer) (closeRefusals price rate words (At next)) _ (closeRefused b) refl refl (λ k. refl)
 
-  pub month-refuses : (cs : List ℕ) (places : ℕ) → Refuses (monthRefusals (b .ledger .accounts) (b .«close_since») cs places) (month b cs places .answer)
+  pub month-refuses : (cs : List ℕ) (places : ℕ) → Refuses (monthRefusals (b .ledger .accounts) (b .day .«close_since») cs places) (month b cs places .answer)
   unfolding month monthRefusals
   month-refuses cs places =
-      outcome-refuses (λ (r : Done). r .answer) (monthRefusals (b .ledger .accounts) (b .«close_since») cs places) _ (doneRefused b) refl refl (λ k. refl)
+      outcome-refuses (λ (r : Done). r .answer) (monthRefusals (b .ledger .accounts) (b .day .«close_since») cs places) _ (doneRefused b) refl refl (λ k. refl)
 
   pub status-refuses : (n : ℕ) → Refuses (statusRefusals b n) (status b n .answer)
   unfolding status statusRefusals

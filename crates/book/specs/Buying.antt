@@ -7,12 +7,12 @@ use Rattle.book.specs.declared.Book.{Book}
 use Rattle.book.specs.declared.Done.{Done}
 use Rattle.refusals.specs.Calls.{fetchRefusals, fetchOutcome, offerRefusalsIn, offerRefusalsOf}
 use Rattle.refusals.specs.Refusals.{Refusal}
-use Rattle.book.specs.Book.{withLedger, ageOf}
+use Rattle.book.specs.Book.{withLedger, todayOf, ageOf}
 use Rattle.book.specs.Instructing.{doneRefused}
 
 -- A11, Refusals, of Offer on the obligation that was found
 abbrev pub offerRefusalsFor : Book → ℕ → Obligation → List Refusal
-offerRefusalsFor b price o = offerRefusalsOf (b .terms) (b .today) (ageOf b o) (b .ledger .offers .count) o price
+offerRefusalsFor b price o = offerRefusalsOf (b .setup .terms) (todayOf b) (ageOf b o) (b .ledger .offers .count) o price
 
 -- A11, Refusals, of Offer
 unfoldable pub offerRefusals : Book → ℕ → ℕ → ℕ → ℕ → List Refusal

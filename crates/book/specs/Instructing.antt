@@ -22,7 +22,7 @@ use Rattle.book.specs.declared.Cancelled.{Cancelled}
 use Rattle.book.specs.declared.Delivered.{Delivered}
 use Rattle.refusals.specs.Calls.{fetchRefusals, fetchOutcome, enterRefusals, cancelRefusalsIn, cancelRefusalsOf, deliverRefusalsIn, deliverRefusalsOf}
 use Rattle.refusals.specs.Refusals.{Refusal, refuse, answer, outcome, noMember}
-use Rattle.book.specs.Book.{withLegs, withLedger}
+use Rattle.book.specs.Book.{withLegs, withLedger, todayOf}
 
 -- ---- Enter
 -- E1, Enter: the leg of an instruction, which waits
@@ -41,7 +41,13 @@ newLeg member other side q a j = record {
 -- and Q and J, in which the two agree, from the new one
 unfoldable pub obligationOf : Leg → Leg → Obligation
 obligationOf new old =
-    newObligation (delivering new old .member) (receiving new old .member) (new .quantity) (delivering new old .amount) (new .day)
+    newObligation (record {
+      seller = delivering new old .member;
+      buyer = receiving new old .member;
+      quantity = new .quantity;
+      amount = delivering new old .amount;
+      day = new .day;
+    })
 
 -- E10 and E11, Enter: no leg fits, so the new one waits
 unfoldable pub enteredAlone : Book → Leg → Entered
@@ -76,7 +82,7 @@ enterRefused b n = record { answer = n; leg = 0; obligation = 0; book = b }
 unfoldable pub enter : Book → ℕ → ℕ → ℕ → ℕ → ℕ → Day → Entered
 enter b member other side q a j =
     let new = newLeg member other side q a j in
-    outcome (answer (enterRefusals (b .closed) (b .today) (b .legs .count) new)) (enteredBy b new (lowestFit (b .legs) new))
+    outcome (answer (enterRefusals (b .setup .«closed_days») (todayOf b) (b .legs .count) new)) (enteredBy b new (lowestFit (b .legs) new))
     (enterRefused b)
 
 -- ---- Withdraw
@@ -134,7 +140,7 @@ cancel b n member =
 -- ---- Deliver
 -- A10, Refusals, of Deliver
 unfoldable pub deliverRefusals : Book → ℕ → ℕ → List Refusal
-deliverRefusals b n q = fetchRefusals (deliverRefusalsIn q) (fetched (b .ledger) n) (λ o. deliverRefusalsOf (b .today) o q)
+deliverRefusals b n q = fetchRefusals (deliverRefusalsIn q) (fetched (b .ledger) n) (λ o. deliverRefusalsOf (todayOf b) o q)
 
 -- A5, Refusals: a refused Deliver
 abbrev pub deliverRefused : Book → ℕ → Delivered
@@ -151,5 +157,5 @@ deliverDone b n q o = record {
 -- V1 and V2, Deliver
 unfoldable pub deliver : Book → ℕ → ℕ → Delivered
 deliver b n q =
-    fetchOutcome (deliverRefusalsIn q) (fetched (b .ledger) n) (λ o. deliverRefusalsOf (b .today) o q) (deliverDone b n q)
+    fetchOutcome (deliverRefusalsIn q) (fetched (b .ledger) n) (λ o. deliverRefusalsOf (todayOf b) o q) (deliverDone b n q)
     (deliverRefused b)

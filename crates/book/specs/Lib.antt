@@ -2,6 +2,6 @@ pub mod Book
 pub mod Open
 pub mod Instructing
 pub mod Buying
-pub mod Closing
+pub mod Close
 pub mod Month
 pub mod Reading

@@ -6,23 +6,22 @@ use Rattle.ledger.specs.Ledger.{clearedLedger}
 use Rattle.payments.specs.Month.{monthNumber, paidOut}
 use Rattle.refusals.specs.Refusals.{outcome}
 use Rattle.book.specs.declared.Book.{Book}
+use Rattle.book.specs.declared.BookDay.{BookDay}
 use Rattle.book.specs.declared.Done.{Done}
+use Rattle.book.specs.Book.{withDay}
 use Rattle.book.specs.Instructing.{doneRefused}
+
+-- R21, Refusals: the day after it, on which no Month may come until the next Close
+abbrev pub paidDay : BookDay → BookDay
+paidDay d = record { today = d .today; «close_since» = false }
 
 -- M10, Month: the book after it
 abbrev pub monthBook : Book → Book
-monthBook b = record {
-  closed = b .closed;
-  terms = b .terms;
-  today = b .today;
-  «close_since» = false;
-  legs = b .legs;
-  ledger = clearedLedger (b .ledger);
-}
+monthBook b = withDay (paidDay (b .day)) (clearedLedger (b .ledger)) b
 
 -- A13, Refusals, of Month: its answer number, with this many places for payouts
 abbrev pub monthAnswer : Book → List ℕ → ℕ → ℕ
-monthAnswer b collected places = monthNumber (b .ledger .accounts) (b .«close_since») collected places
+monthAnswer b collected places = monthNumber (b .ledger .accounts) (b .day .«close_since») collected places
 
 -- M3 and M10, Month: with this many places for payouts
 unfoldable pub month : Book → List ℕ → ℕ → Done
@@ -30,4 +29,4 @@ month b collected places = outcome (monthAnswer b collected places) (record { an
 
 -- M3, Month, and A5, Refusals: every word of the places for payouts as the call ends
 abbrev pub monthWords : Book → List ℕ → List ℕ → List ℕ
-monthWords b collected places = paidOut (b .ledger .accounts) (b .«close_since») collected places
+monthWords b collected places = paidOut (b .ledger .accounts) (b .day .«close_since») collected places

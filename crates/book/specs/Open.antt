@@ -24,11 +24,9 @@ termsOf terms =
 
 -- O5, Open: a fresh book
 abbrev pub freshBook : Day → ClosedDays → ℕ → Book
-freshBook first closed terms = record {
-  closed = closed;
-  terms = termsOf terms;
-  today = first;
-  «close_since» = false;
+freshBook first closedDays terms = record {
+  setup = record { «closed_days» = closedDays; terms = termsOf terms };
+  day = record { today = first; «close_since» = false };
   legs = noLegs;
   ledger = newLedger;
 }

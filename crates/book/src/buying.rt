@@ -28,12 +28,12 @@ impl Book {
                 book: self,
             };
         };
-        let closed = self.closed;
-        let terms = self.terms;
-        let today = self.today;
-        let held = ledger.offers;
-        let age = closed.age_at(found.day, today);
-        let late = refusals::offer_answer_of(terms, today, age, held.count, found, price);
+        let setup = self.setup;
+        let closed_days = setup.closed_days;
+        let today = self.day.today;
+        let age = closed_days.age_at(found.deal.day, today);
+        let held = ledger.offers.count;
+        let late = refusals::offer_answer_of(setup.terms, today, age, held, found, price);
         if late != 0 {
             return Done {
                 answer: late,

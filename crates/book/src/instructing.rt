@@ -4,15 +4,21 @@ use crate::Cancelled;
 use crate::Delivered;
 use crate::Done;
 use crate::Entered;
+use amounts::MOST_QUANTITY;
 use calendar::Day;
 use instructions::FetchedLeg;
 use instructions::Fit;
 use instructions::Leg;
 use instructions::LegState;
+use ledger::Deal;
 use ledger::Fetched;
 use ledger::Obligation;
+use ledger::Part;
+use refusals::LAST_MEMBER;
 ghost use mathlib.Core.Path.{_≡_};
 ghost use Prim.Native.Nat.{_<_};
+ghost use Rattle.instructions.specs.Legs.{mostLegs};
+ghost use Rattle.ledger.specs.Ledger.{mostObligations};
 ghost use Rattle.book.specs.Book.{Valid};
 ghost use Rattle.book.specs.Instructing.{obligationOf, enteredWith, enter, withdraw};
 ghost use Rattle.book.specs.Instructing.{cancel, deliver};
@@ -24,19 +30,19 @@ fn obligation_of(new: Leg, old: Leg) -> Obligation
     let seller = new.delivering(old);
     let buyer = new.receiving(old);
     let day = new.day;
-    Obligation::new(
-        seller.member,
-        buyer.member,
-        new.quantity,
-        seller.amount,
-        day,
-    )
+    Obligation::new(Deal {
+        seller: seller.member,
+        buyer: buyer.member,
+        quantity: new.quantity,
+        amount: seller.amount,
+        day: day,
+    })
 }
 
 impl Book {
     // The new leg matches leg k: both belong to a new obligation.
     fn enter_with(mut self, new: Leg, k: u64) -> Entered
-        requires { ⌜ (k < 128) × (self .legs .count < 128) × (self .ledger .count < 64) ⌝ }
+        requires { ⌜ (k < mostLegs) × (self .legs .count < mostLegs) × (self .ledger .count < mostObligations) ⌝ }
         ensures { λ r. ⌜ r ≡ enteredWith self new k ⌝ }
     {
         let legs = self.legs;
@@ -81,9 +87,9 @@ impl Book {
             day: day,
             state: LegState::Waiting,
         };
-        let closed = self.closed;
         let legs = self.legs;
-        let number = refusals::enter_answer(closed, self.today, legs.count, new);
+        let closed_days = self.setup.closed_days;
+        let number = refusals::enter_answer(closed_days, self.day.today, legs.count, new);
         if number != 0 {
             return Entered {
                 answer: number,
@@ -110,7 +116,7 @@ impl Book {
         ensures { λ r. ⌜ r ≡ withdraw self leg member ⌝ }
         ensures { λ r. ⌜ Valid (r .book) ⌝ }
     {
-        if 31 < member {
+        if LAST_MEMBER < member {
             return Done {
                 answer: 1,
                 book: self,
@@ -124,7 +130,7 @@ impl Book {
             };
         };
         let state = found.state;
-        if instructions::is_waiting(state) {} else {
+        if !instructions::is_waiting(state) {
             return Done {
                 answer: 13,
                 book: self,
@@ -149,7 +155,7 @@ impl Book {
         ensures { λ r. ⌜ r ≡ cancel self obligation member ⌝ }
         ensures { λ r. ⌜ Valid (r .book) ⌝ }
     {
-        if 31 < member {
+        if LAST_MEMBER < member {
             return Cancelled {
                 answer: 1,
                 moved: 0,
@@ -186,7 +192,7 @@ impl Book {
         ensures { λ r. ⌜ r ≡ deliver self obligation quantity ⌝ }
         ensures { λ r. ⌜ Valid (r .book) ⌝ }
     {
-        if refusals::is_outside(1, 100_000, quantity) {
+        if refusals::is_outside(1, MOST_QUANTITY, quantity) {
             return Delivered {
                 answer: 2,
                 cash: 0,
@@ -201,7 +207,7 @@ impl Book {
                 book: self,
             };
         };
-        let number = refusals::deliver_answer(self.today, found, quantity);
+        let number = refusals::deliver_answer(self.day.today, found, quantity);
         if number != 0 {
             return Delivered {
                 answer: number,
@@ -209,7 +215,8 @@ impl Book {
                 book: self,
             };
         }
-        self.ledger = ledger.replace(obligation, found.deliver(quantity));
+        let next = found.move_to(Part::Delivered, quantity);
+        self.ledger = ledger.replace(obligation, next);
         Delivered {
             answer: 0,
             cash: found.cash_for(quantity),

@@ -1,26 +1,29 @@
 // The book of one bond and its calls. Every call takes the book and hands it back in an answer struct, with the answer
 // number (0 is done) and the results; a refused call hands back its number, zeros and the same book.
-use calendar::ClosedDays;
 use calendar::Day;
 use instructions::Legs;
 use ledger::Ledger;
 use ledger::Parts;
-use ledger::Terms;
+use ledger::Setup;
 
 mod buying;
-mod ending;
+mod close;
 mod instructing;
-mod opening;
-mod paying;
-mod showing;
+mod month;
+mod open;
+mod reading;
 
-// The settlement-discipline book of one bond.
-pub struct Book {
-    pub closed: ClosedDays,
-    pub terms: Terms,
+// What the days have brought: the day that it is, and what a Close leaves for the Month after it.
+pub struct BookDay {
     pub today: Day,
     // Whether a Close was accepted since Open or the last accepted Month.
     pub close_since: bool,
+}
+
+// The settlement-discipline book of one bond.
+pub struct Book {
+    pub setup: Setup,
+    pub day: BookDay,
     pub legs: Legs,
     pub ledger: Ledger,
 }

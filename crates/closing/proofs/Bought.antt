@@ -12,9 +12,10 @@ use Rattle.amounts.specs.Amounts.{mostOfferPrice}
 use Rattle.offers.specs.declared.Given.{Given}
 use Rattle.offers.specs.declared.BuyIn.{BuyIn}
 use Rattle.offers.specs.BuyIn.{units, nothingGiven}
+use Rattle.ledger.specs.declared.Part.the-variants.{BoughtIn}
 use Rattle.ledger.specs.declared.Obligation.{Obligation}
-use Rattle.ledger.specs.Obligations.{buyingIn, Sound, Takes}
-use Rattle.ledger.proofs.Keeping.{buying-none, buying-more, buying-sound}
+use Rattle.ledger.specs.Obligations.{moving, Sound, Takes}
+use Rattle.ledger.proofs.Keeping.{moving-none, moving-more, moving-sound}
 use Rattle.closing.specs.declared.Closing.{Closing}
 use Rattle.closing.specs.Lines.{Made, then, Room, Wrote}
 use Rattle.closing.specs.Stages.{boughtFrom, boughtAll}
@@ -22,23 +23,23 @@ use Rattle.closing.specs.Asked.{taken, Buys}
 use Rattle.closing.proofs.Lines.{wrote-length}
 
 -- all that the offers give is bought in
-pub bought-obligation : (n : ℕ) (gs : List Given) (o : Obligation) → boughtAll n gs o .obligation ≡ buyingIn (units gs) o
+pub bought-obligation : (n : ℕ) (gs : List Given) (o : Obligation) → boughtAll n gs o .obligation ≡ moving BoughtIn (units gs) o
 unfolding boughtAll boughtFrom then total
-bought-obligation n [] o = sym (buying-none o)
-bought-obligation n (g ∷ gs) o = bought-obligation n gs (buyingIn (g .quantity) o) ∙ buying-more o (g .quantity) (units gs)
+bought-obligation n [] o = sym (moving-none BoughtIn o)
+bought-obligation n (g ∷ gs) o = bought-obligation n gs (moving BoughtIn (g .quantity) o) ∙ moving-more BoughtIn o (g .quantity) (units gs)
 
 -- there is one line for each offer that gives
 pub bought-length : (n : ℕ) (gs : List Given) (o : Obligation) → length (boughtAll n gs o .lines) ≡ length gs
 unfolding boughtAll boughtFrom then
 bought-length n [] o = refl
-bought-length n (g ∷ gs) o = ap suc (bought-length n gs (buyingIn (g .quantity) o))
+bought-length n (g ∷ gs) o = ap suc (bought-length n gs (moving BoughtIn (g .quantity) o))
 
 -- the last offer is bought from after all the others
 bought-last : (n : ℕ) (gs : List Given) (g : Given) (o : Obligation) → boughtAll n (gs ++ g ∷ []) o ≡ then (boughtAll n gs o) (boughtFrom n g)
 unfolding boughtAll boughtFrom then
 bought-last n [] g o = refl
 bought-last n (x ∷ gs) g o =
-    ap (λ (m : Made). then (boughtFrom n x o) (λ p. m)) (bought-last n gs g (buyingIn (x .quantity) o))
+    ap (λ (m : Made). then (boughtFrom n x o) (λ p. m)) (bought-last n gs g (moving BoughtIn (x .quantity) o))
 
 pub bought-next : (n : ℕ) (gs : List Given) (k : ℕ) (o : Obligation) (z : Given) → k < length gs →
     boughtAll n (take (k + 1) gs) o ≡ then (boughtAll n (take k gs) o) (boughtFrom n (getD gs k z))
@@ -55,11 +56,11 @@ units-next (g ∷ gs) (suc k) z h = omega (arith, units-next gs k z (omega arith
 
 pub bought-takes : (n : ℕ) (gs : List Given) (k : ℕ) (o : Obligation) (z : Given) → k < length gs → Sound o → units gs ≤ o .parts .outstanding →
     Takes (boughtAll n (take k gs) o .obligation) (getD gs k z .quantity)
-unfolding buyingIn
+unfolding moving
 bought-takes n gs k o z h s e =
     let u = units-next gs k z h in
     rw (bought-obligation n (take k gs) o) (record {
-      sound = buying-sound o (units (take k gs)) (record { sound = s; enough = omega arith });
+      sound = moving-sound BoughtIn o (units (take k gs)) (record { sound = s; enough = omega arith });
       enough = omega arith;
     })
 

@@ -28,10 +28,10 @@ pub fine-most : (o : Obligation) (price rate : ℕ) → Sound o → price ≤ mo
 fine-most o price rate s p r = penalty-most (o .parts .outstanding) price rate (outstanding-most o s) p r
 
 pub fine-transferable : (o : Obligation) (price rate : ℕ) (accounts : List ℤ) → Sound o → price ≤ mostClosePrice → rate ≤ mostRate → Bounded accounts →
-    Transferable (o .seller) (o .buyer) (penalty (o .parts .outstanding) price rate) accounts
+    Transferable (o .deal .seller) (o .deal .buyer) (penalty (o .parts .outstanding) price rate) accounts
 fine-transferable o price rate accounts s p r b = record {
-  debtor-below = s .seller-below;
-  creditor-below = s .buyer-below;
+  debtor-below = s .deal .seller-below;
+  creditor-below = s .deal .buyer-below;
   cents-most = omega (arith, fine-most o price rate s p r);
   bounded = b;
 }
@@ -50,9 +50,9 @@ fined-charged today price rate o accounts s p r size =
     let cents : ℕ = penalty (o .parts .outstanding) price rate in
     pick-case (λ (a : List ℤ). Charged accounts a mostFine) (isDue today o) _ _
     (λ e. record {
-      size = transferred-length (o .seller) (o .buyer) cents accounts;
-      even = transferred-balance (o .seller) (o .buyer) cents accounts (omega (arith, s .seller-below)) (omega (arith, s .buyer-below));
-      near = λ m. omega (arith, transferred-abs (o .seller) (o .buyer) cents accounts (omega (arith, s .seller-below)) (omega (arith, s .buyer-below)) m);
+      size = transferred-length (o .deal .seller) (o .deal .buyer) cents accounts;
+      even = transferred-balance (o .deal .seller) (o .deal .buyer) cents accounts (omega (arith, s .deal .seller-below)) (omega (arith, s .deal .buyer-below));
+      near = λ m. omega (arith, transferred-abs (o .deal .seller) (o .deal .buyer) cents accounts (omega (arith, s .deal .seller-below)) (omega (arith, s .deal .buyer-below)) m);
     })
     (λ e. record { size = refl; even = refl; near = λ m. omega arith })
 
@@ -66,7 +66,7 @@ module _ (today : Day) (price rate : ℕ) (l : Ledger) (v : ValidLedger l) (p : 
   charged-up-to zero h = record { size = refl; even = refl; near = λ m. omega arith }
   charged-up-to (suc n) h =
       let a = charged-up-to n (omega arith) in
-      let b = fined-charged today price rate (obligationAt l n) (upTo n) (v .sound n h) p r (a .size ∙ v .accounts-size) in
+      let b = fined-charged today price rate (obligationAt l n) (upTo n) (v .sound n h) p r (a .size ∙ v .accounts .size) in
       record {
         size = b .size ∙ a .size;
         even = b .even ∙ a .even;
@@ -84,6 +84,6 @@ accounts-length today price rate os accounts (suc n) =
     let o : Obligation = getD os n noObligation in
     let before : List ℤ = accountsUpTo today price rate os accounts n in
     pick-case (λ (a : List ℤ). length a ≡ length before) (isDue today o) _ _
-    (λ e. transferred-length (o .seller) (o .buyer) (penalty (o .parts .outstanding) price rate) before)
+    (λ e. transferred-length (o .deal .seller) (o .deal .buyer) (penalty (o .parts .outstanding) price rate) before)
     (λ e. refl)
     ∙ accounts-length today price rate os accounts n

@@ -1,6 +1,6 @@
--- Laws on what each part of a Close leaves of an obligation. It is sound and has the same parties, quantity and day,
+-- Laws on what each part of a Close leaves of an obligation. It is sound and has the same deal,
 -- and the quantities in its lines are those that moved.
-use Prim.Native.Nat.{ℕ, _+_, _≤_, _<_}
+use Prim.Native.Nat.{ℕ, _+_, _≤_}
 use native.Mathlib.Omega.{arith}
 use mathlib.Core.Path.{_≡_, refl, ap, _∙_}
 use mathlib.Core.Bool.{Bool, true, false}
@@ -21,10 +21,12 @@ use Rattle.offers.specs.BuyIn.{given, units, boughtWith}
 use Rattle.offers.proofs.Giving.{given-units, given-keeps}
 use Rattle.offers.proofs.Results.{bought-given, bought-size, lines-most as offers-given-most}
 use Rattle.ledger.specs.declared.Terms.{Terms}
+use Rattle.ledger.specs.declared.Part.the-variants.{BoughtIn, Compensated}
 use Rattle.ledger.specs.declared.Parts.{Parts}
 use Rattle.ledger.specs.declared.Obligation.{Obligation}
-use Rattle.ledger.specs.Obligations.{inBuyIn, isDue, compensating, Sound}
-use Rattle.ledger.proofs.Keeping.{buying-sound, compensating-sound, priced-sound, Later, later-same, later-then, buying-later, compensating-later, priced-later}
+use Rattle.ledger.specs.Setup.{ValidTerms}
+use Rattle.ledger.specs.Obligations.{inBuyIn, isDue, moving, Sound}
+use Rattle.ledger.proofs.Keeping.{moving-sound, takes-all, priced-sound, Later, later-same, later-then, moving-later, priced-later}
 use Rattle.closing.specs.declared.DayEnd.{DayEnd}
 use Rattle.closing.specs.Lines.{Made, nothing, then}
 use Rattle.closing.specs.Stages.{priced, penalised, noticeAt, boughtAll, buyInAt, compensated, compensatedAt}
@@ -66,7 +68,7 @@ notice-same terms age n o = pick-case (λ (m : Made). m .obligation ≡ o) (eqb 
 
 bought-goes : (n : ℕ) (gs : List Given) (o : Obligation) → Sound o → units gs ≤ o .parts .outstanding → Goes o (boughtAll n gs o .obligation)
 bought-goes n gs o s h =
-    rw (bought-obligation n gs o) (record { sound = buying-sound o (units gs) (record { sound = s; enough = h }); later = buying-later o (units gs) })
+    rw (bought-obligation n gs o) (record { sound = moving-sound BoughtIn o (units gs) (record { sound = s; enough = h }); later = moving-later BoughtIn o (units gs) })
 
 pub buy-in-goes : (terms : Terms) (age : ℕ) (offers : List Offer) (n : ℕ) (o : Obligation) → Sound o → Goes o (buyInAt terms age offers n o .obligation)
 unfolding buyInAt
@@ -80,7 +82,7 @@ unfolding compensated
 compensated-goes price n o s =
     pick-case (λ (m : Made). Goes o (m .obligation)) (eqb (o .parts .outstanding) 0) _ _
     (λ e. goes-same o s)
-    (λ e. record { sound = compensating-sound o s; later = compensating-later o })
+    (λ e. record { sound = moving-sound Compensated o _ (takes-all o s); later = moving-later Compensated o _ })
 
 pub compensated-at-goes : (terms : Terms) (age price n : ℕ) (o : Obligation) → Sound o → Goes o (compensatedAt terms age price n o .obligation)
 unfolding compensatedAt
@@ -93,33 +95,33 @@ compensated-at-goes terms age price n o s =
 module _ (d : DayEnd) (age : ℕ) (offers : List Offer) (n : ℕ) (o : Obligation) where
   -- the obligation before the buy-in, with its price stored
   abbrev pub first : Obligation
-  first = priced (d .terms) age (d .price) o
+  first = priced (d .setup .terms) age (d .price) o
 
   abbrev pub bought : Made
-  bought = buyInAt (d .terms) age offers n first
+  bought = buyInAt (d .setup .terms) age offers n first
 
-  pub stages-obligation : stages d age offers n o .obligation ≡ compensatedAt (d .terms) age (d .price) n (bought .obligation) .obligation
+  pub stages-obligation : stages d age offers n o .obligation ≡ compensatedAt (d .setup .terms) age (d .price) n (bought .obligation) .obligation
   unfolding stages then penalised
-  stages-obligation = rw (notice-same (d .terms) age n first)
+  stages-obligation = rw (notice-same (d .setup .terms) age n first)
 
   pub stages-lines : stages d age offers n o .lines ≡
-      ((penalised n (d .price) (d .rate) first .lines ++ noticeAt (d .terms) age n first .lines) ++ bought .lines)
-      ++ compensatedAt (d .terms) age (d .price) n (bought .obligation) .lines
+      ((penalised n (d .price) (d .rate) first .lines ++ noticeAt (d .setup .terms) age n first .lines) ++ bought .lines)
+      ++ compensatedAt (d .setup .terms) age (d .price) n (bought .obligation) .lines
   unfolding stages then penalised
-  stages-lines = rw (notice-same (d .terms) age n first)
+  stages-lines = rw (notice-same (d .setup .terms) age n first)
 
   pub stages-goes : d .price ≤ mostClosePrice → Sound o → Goes o (stages d age offers n o .obligation)
   stages-goes h s =
-      let a = priced-goes (d .terms) age (d .price) o h s in
-      let b = buy-in-goes (d .terms) age offers n first (a .sound) in
-      let c = compensated-at-goes (d .terms) age (d .price) n (bought .obligation) (b .sound) in
+      let a = priced-goes (d .setup .terms) age (d .price) o h s in
+      let b = buy-in-goes (d .setup .terms) age offers n first (a .sound) in
+      let c = compensated-at-goes (d .setup .terms) age (d .price) n (bought .obligation) (b .sound) in
       rw stages-obligation (goes-then o first _ a (goes-then first (bought .obligation) _ b c))
 
 pub closed-goes : (d : DayEnd) (offers : List Offer) (n : ℕ) (o : Obligation) → d .price ≤ mostClosePrice → Sound o → Goes o (closedOne d offers n o .obligation)
 unfolding closedOne
 closed-goes d offers n o h s =
     pick-case (λ (m : Made). Goes o (m .obligation)) (isDue (d .today) o) _ _
-    (λ e. stages-goes d (ageAt (closedListed (d .closed)) (o .day) (d .today) .0) offers n o h s)
+    (λ e. stages-goes d (ageAt (closedListed (d .setup .«closed_days»)) (o .deal .day) (d .today) .0) offers n o h s)
     (λ e. goes-same o s)
 
 -- ---- how many lines
@@ -133,7 +135,7 @@ unfolding compensatedAt compensated
 compensated-one terms age price n o e f = rw (eq-eqb age (terms .last .0) e, ne-eqb (o .parts .outstanding) 0 f)
 
 -- no Close makes both a notice and a compensation for one obligation
-extras-most : (terms : Terms) (age price n : ℕ) (o r : Obligation) → terms .notice .0 < terms .last .0 →
+extras-most : (terms : Terms) (age price n : ℕ) (o r : Obligation) → ValidTerms terms →
     length (noticeAt terms age n o .lines) + length (compensatedAt terms age price n r .lines) ≤ 1
 unfolding noticeAt compensatedAt compensated
 extras-most terms age price n o r h = by (eqb age (terms .notice .0)) (eqb age (terms .last .0)) refl refl
@@ -155,33 +157,33 @@ bought-in-most terms age offers n o =
     (λ e. omega (arith, bought-length n (given n (o .parts .outstanding) offers) o))
     (λ e. omega arith)
 
-pub stages-most : (d : DayEnd) (age : ℕ) (offers : List Offer) (n : ℕ) (o : Obligation) → d .terms .notice .0 < d .terms .last .0 →
+pub stages-most : (d : DayEnd) (age : ℕ) (offers : List Offer) (n : ℕ) (o : Obligation) → ValidTerms (d .setup .terms) →
     length (stages d age offers n o .lines) ≤ 2 + length (given n (o .parts .outstanding) offers)
 unfolding penalised
 stages-most d age offers n o h =
     let p = first d age offers n o in
     let b = bought d age offers n o in
-    let ns = noticeAt (d .terms) age n p .lines in
-    let cs = compensatedAt (d .terms) age (d .price) n (b .obligation) .lines in
+    let ns = noticeAt (d .setup .terms) age n p .lines in
+    let cs = compensatedAt (d .setup .terms) age (d .price) n (b .obligation) .lines in
     let ps = penalised n (d .price) (d .rate) p .lines in
-    let left = ap (λ (q : Parts). length (given n (q .outstanding) offers)) (priced-parts (d .terms) age (d .price) o) in
+    let left = ap (λ (q : Parts). length (given n (q .outstanding) offers)) (priced-parts (d .setup .terms) age (d .price) o) in
     rw (stages-lines d age offers n o)
     (omega (
       arith,
       length-append ((ps ++ ns) ++ b .lines) cs,
       length-append (ps ++ ns) (b .lines),
       length-append ps ns,
-      extras-most (d .terms) age (d .price) n p (b .obligation) h,
-      bought-in-most (d .terms) age offers n p,
+      extras-most (d .setup .terms) age (d .price) n p (b .obligation) h,
+      bought-in-most (d .setup .terms) age offers n p,
       left,
     ))
 
-pub closed-most : (d : DayEnd) (offers : List Offer) (n : ℕ) (o : Obligation) → d .terms .notice .0 < d .terms .last .0 →
+pub closed-most : (d : DayEnd) (offers : List Offer) (n : ℕ) (o : Obligation) → ValidTerms (d .setup .terms) →
     length (closedOne d offers n o .lines) ≤ 2 + length (given n (o .parts .outstanding) offers)
 unfolding closedOne
 closed-most d offers n o h =
     pick-case (λ (m : Made). length (m .lines) ≤ 2 + length (given n (o .parts .outstanding) offers)) (isDue (d .today) o) _ _
-    (λ e. stages-most d (ageAt (closedListed (d .closed)) (o .day) (d .today) .0) offers n o h)
+    (λ e. stages-most d (ageAt (closedListed (d .setup .«closed_days»)) (o .deal .day) (d .today) .0) offers n o h)
     (λ e. omega arith)
 
 -- ---- what a pass over the offers has found
@@ -209,19 +211,19 @@ module _ (terms : Terms) (age : ℕ) (offers : Offers) (n : ℕ) (o : Obligation
 
 -- ---- the last day
 compensated-none : (price n : ℕ) (o : Obligation) → compensated price n o .obligation .parts .outstanding ≡ 0
-unfolding compensated compensating
+unfolding compensated moving
 compensated-none price n o =
     pick-case (λ (m : Made). m .obligation .parts .outstanding ≡ 0) (eqb (o .parts .outstanding) 0) _ _
     (λ e. eqb-true (o .parts .outstanding) 0 e)
-    (λ e. refl)
+    (λ e. omega arith)
 
 -- after a Close at age = last nothing of the obligation is outstanding
 pub last-none : (d : DayEnd) (offers : List Offer) (n : ℕ) (o : Obligation) → isDue (d .today) o ≡ true →
-    ageAt (closedListed (d .closed)) (o .day) (d .today) .0 ≡ d .terms .last .0 → closedOne d offers n o .obligation .parts .outstanding ≡ 0
+    ageAt (closedListed (d .setup .«closed_days»)) (o .deal .day) (d .today) .0 ≡ d .setup .terms .last .0 → closedOne d offers n o .obligation .parts .outstanding ≡ 0
 unfolding closedOne compensatedAt
 last-none d offers n o t e =
-    let age = ageAt (closedListed (d .closed)) (o .day) (d .today) .0 in
-    rw (t, stages-obligation d age offers n o, eq-eqb age (d .terms .last .0) e)
+    let age = ageAt (closedListed (d .setup .«closed_days»)) (o .deal .day) (d .today) .0 in
+    rw (t, stages-obligation d age offers n o, eq-eqb age (d .setup .terms .last .0) e)
     (compensated-none (d .price) n (bought d age offers n o .obligation))
 
 -- an obligation that is not due stays as it is

@@ -15,17 +15,18 @@ use Rattle.basics.proofs.Stores.{sets-ahead}
 use Rattle.basics.proofs.TableSums.{sum-more}
 use Rattle.offers.specs.declared.Offer.{Offer}
 use Rattle.offers.specs.declared.Offers.{Offers}
-use Rattle.offers.specs.Held.{listed}
+use Rattle.offers.specs.Held.{mostOffers, listed}
 use Rattle.offers.specs.BuyIn.{given}
 use Rattle.offers.proofs.Results.{all-lines-most}
 use Rattle.ledger.specs.declared.Obligation.{Obligation}
 use Rattle.ledger.specs.declared.Ledger.{Ledger}
+use Rattle.ledger.specs.Setup.{ValidTerms}
 use Rattle.ledger.specs.Obligations.{noObligation}
-use Rattle.ledger.specs.Ledger.{obligationAt, SoundOffer}
+use Rattle.ledger.specs.Ledger.{mostObligations, obligationAt, SoundOffer}
 use Rattle.closing.specs.declared.DayEnd.{DayEnd}
 use Rattle.closing.specs.declared.Line.{Line}
 use Rattle.closing.specs.declared.Closing.{Closing}
-use Rattle.closing.specs.Lines.{flat, written, Room, Wrote}
+use Rattle.closing.specs.Lines.{mostLines, flat, written, Room, Wrote}
 use Rattle.closing.specs.Close.{closedAt, rowsUpTo, linesUpTo}
 use Rattle.closing.specs.Asked.{Closes, Closable, ClosedAs}
 use Rattle.closing.proofs.Lines.{flat-length, flat-stores}
@@ -36,7 +37,7 @@ module _ (d : DayEnd) (os : List Obligation) where
   abbrev left : ℕ → ℕ
   left n = getD os n noObligation .parts .outstanding
 
-  up-to-most : (offers : List Offer) → d .terms .notice .0 < d .terms .last .0 → (n : ℕ) →
+  up-to-most : (offers : List Offer) → ValidTerms (d .setup .terms) → (n : ℕ) →
       length (linesUpTo d offers os n) ≤ 2 * n + sum (table n (λ i. length (given i (left i) offers)))
   unfolding linesUpTo
   up-to-most offers h zero = omega arith
@@ -49,9 +50,9 @@ module _ (d : DayEnd) (os : List Obligation) where
         sum-more n (λ i. length (given i (left i) offers)),
       )
 
-  -- 192 lines are enough for 64 obligations with 64 offers
-  pub lines-most : (offers : Offers) → d .terms .notice .0 < d .terms .last .0 → offers .count ≤ 64 → (n : ℕ) → n ≤ 64 →
-      length (linesUpTo d (listed offers) os n) ≤ 192
+  -- the most lines are enough for all obligations with all offers
+  pub lines-most : (offers : Offers) → ValidTerms (d .setup .terms) → offers .count ≤ mostOffers → (n : ℕ) → n ≤ mostObligations →
+      length (linesUpTo d (listed offers) os n) ≤ mostLines
   lines-most offers h few n m = omega (arith, up-to-most (listed offers) h n, all-lines-most n left offers)
 
   -- ---- rows
@@ -132,7 +133,7 @@ unfolding linesUpTo
 done-room d l n count next ws ws' c h s =
     omega (
       arith,
-      lines-most d (l .obligations) (l .offers) (c .apart) (c .valid .offers-few) (suc n) (omega (arith, c .valid .few)),
+      lines-most d (l .obligations) (l .offers) (c .setup .terms) (c .valid .offers .few) (suc n) (omega (arith, c .valid .few)),
       length-append (linesUpTo d (listed (l .offers)) (l .obligations) n) (closedAt d (listed (l .offers)) (l .obligations) n .lines),
       s .counted,
       done-length d (listed (l .offers)) (l .obligations) n next count ws ws' s,
@@ -143,8 +144,8 @@ done-room d l n count next ws ws' c h s =
 pub done-closes : (d : DayEnd) (l : Ledger) (n : ℕ) (ws : List ℕ) → Closable d l ws → n < l .count → Closes d (l .offers) (obligationAt l n)
 done-closes d l n ws c h = record {
   sound = c .valid .sound n h;
-  rises = c .rises;
+  setup = c .setup;
   price-most = c .price-most;
   rate-most = c .rate-most;
-  priced = record { few = c .valid .offers-few; prices = every-map (λ (x : Offer) (s : SoundOffer (l .count) x). s .price-most) (c .valid .offers-sound) };
+  priced = record { few = c .valid .offers .few; prices = every-map (λ (x : Offer) (s : SoundOffer (l .count) x). s .price-most) (c .valid .offers .sound) };
 }

@@ -1,24 +1,24 @@
 -- What the functions of a Close require, and what they promise about a lent list.
-use Prim.Native.Nat.{ℕ, _≤_, _<_}
+use Prim.Native.Nat.{ℕ, _*_, _≤_}
 use mathlib.Core.Path.{_≡_}
 use mathlib.Core.List.{List}
 use lib.IntN.{ℤ, pos, natAbs}
 use lib.ListN.{length, getD, take}
 use Rattle.basics.specs.Lists.{Every}
-use Rattle.calendar.specs.Closed.{Rises}
 use Rattle.amounts.specs.Amounts.{mostClosePrice, mostOfferPrice, mostRate}
 use Rattle.offers.specs.declared.Offers.{Offers}
 use Rattle.offers.specs.declared.Given.{Given}
 use Rattle.offers.specs.declared.BuyIn.{BuyIn}
-use Rattle.offers.specs.Held.{listed}
+use Rattle.offers.specs.Held.{mostOffers, listed}
 use Rattle.offers.specs.BuyIn.{units}
 use Rattle.ledger.specs.declared.Obligation.{Obligation}
 use Rattle.ledger.specs.declared.Ledger.{Ledger}
+use Rattle.ledger.specs.Setup.{ValidSetup}
 use Rattle.ledger.specs.Obligations.{Sound}
 use Rattle.ledger.specs.Ledger.{ValidLedger}
 use Rattle.closing.specs.declared.DayEnd.{DayEnd}
 use Rattle.closing.specs.declared.Line.{Line}
-use Rattle.closing.specs.Lines.{written}
+use Rattle.closing.specs.Lines.{mostLines, written}
 
 -- what a pass over the offers has found
 abbrev pub taken : BuyIn → List Given
@@ -26,21 +26,21 @@ taken b = take (b .count) (b .given)
 
 -- the offers of a day, of which none is above the highest price
 pub record Priced (offers : Offers) : Type 0 where
-  pub few : offers .count ≤ 64
+  pub few : offers .count ≤ mostOffers
   pub prices : Every (λ x. x .price ≤ mostOfferPrice) (listed offers)
 
 -- what is required so that all that was found can be bought in
 pub record Buys (o : Obligation) (b : BuyIn) : Type 0 where
   pub sound : Sound o
-  pub size : length (b .given) ≡ 64
-  pub few : b .count ≤ 64
+  pub size : length (b .given) ≡ mostOffers
+  pub few : b .count ≤ mostOffers
   pub enough : units (taken b) ≤ o .parts .outstanding
   pub prices : Every (λ g. g .offer .price ≤ mostOfferPrice) (taken b)
 
 -- what the Close of one obligation requires
 pub record Closes (d : DayEnd) (offers : Offers) (o : Obligation) : Type 0 where
   pub sound : Sound o
-  pub rises : Rises (d .closed)
+  pub setup : ValidSetup (d .setup)
   pub price-most : d .price ≤ mostClosePrice
   pub rate-most : d .rate ≤ mostRate
   pub priced : Priced offers
@@ -49,17 +49,15 @@ pub record Closes (d : DayEnd) (offers : Offers) (o : Obligation) : Type 0 where
 abbrev pub Near : List ℤ → Type 0
 Near accounts = (m : ℕ) → natAbs (getD accounts m (pos 0)) ≤ 8000000000000
 
--- what the Close of a ledger requires: a valid ledger, terms whose notice comes before the last day, closed days that
--- rise, a price and a rate within the limits, accounts that can take its penalties, and room for 192 lines of six words
--- (C16)
+-- what the Close of a ledger requires: a valid ledger and setup, a price and a rate within the limits, accounts that can
+-- take its penalties, and room for the most lines, of six words each
 pub record Closable (d : DayEnd) (l : Ledger) (ws : List ℕ) : Type 0 where
   pub valid : ValidLedger l
-  pub apart : d .terms .notice .0 < d .terms .last .0
-  pub rises : Rises (d .closed)
+  pub setup : ValidSetup (d .setup)
   pub price-most : d .price ≤ mostClosePrice
   pub rate-most : d .rate ≤ mostRate
   pub accounts-near : Near (l .accounts)
-  pub long : 1152 ≤ length ws
+  pub long : 6 * mostLines ≤ length ws
 
 -- C15, Close: a result with its lines: how many lines there are, and the lent list with them at its front
 pub record ClosedAs {A : Type 0} (a : A) (ls : List Line) (r : A) (count : ℕ) (ws ws' : List ℕ) : Type 0 where

@@ -23,16 +23,16 @@ use Rattle.closing.specs.Stages.{priced, penalised, noticeAt, buyInAt, c
 -- Before these the price is stored at age = grace (B9).
 unfoldable pub stages : DayEnd → ℕ → List Offer → ℕ → Obligation → Made
 stages d age offers n o =
-    then (then (then (penalised n (d .price) (d .rate) (priced (d .terms) age (d .price) o))
-    (noticeAt (d .terms) age n))
-    (buyInAt (d .terms) age offers n))
-    (compensatedAt (d .terms) age (d .price) n)
+    then (then (then (penalised n (d .price) (d .rate) (priced (d .setup .terms) age (d .price) o))
+    (noticeAt (d .setup .terms) age n))
+    (buyInAt (d .setup .terms) age offers n))
+    (compensatedAt (d .setup .terms) age (d .price) n)
 
 -- C2, Close: what happens to an obligation. It is due if its J is today or earlier and something of it is outstanding;
 -- any other obligation stays as it is.
 unfoldable pub closedOne : DayEnd → List Offer → ℕ → Obligation → Made
 closedOne d offers n o =
-    pick (isDue (d .today) o) (stages d (ageAt (closedListed (d .closed)) (o .day) (d .today) .0) offers n o) (nothing o)
+    pick (isDue (d .today) o) (stages d (ageAt (closedListed (d .setup .«closed_days»)) (o .deal .day) (d .today) .0) offers n o) (nothing o)
 
 -- obligation number n, as the Close leaves it, with its lines
 abbrev pub closedAt : DayEnd → List Offer → List Obligation → ℕ → Made
@@ -51,7 +51,7 @@ linesUpTo d offers os (suc n) = linesUpTo d offers os n ++ closedAt d offers os 
 -- C4 and C5, Close: the accounts after the penalty of one obligation, which passes from the seller to the buyer
 unfoldable pub fined : Day → ℕ → ℕ → Obligation → List ℤ → List ℤ
 fined today price rate o accounts =
-    pick (isDue today o) (transferred (o .seller) (o .buyer) (penalty (o .parts .outstanding) price rate) accounts) accounts
+    pick (isDue today o) (transferred (o .deal .seller) (o .deal .buyer) (penalty (o .parts .outstanding) price rate) accounts) accounts
 
 -- C5, Close: the accounts after the penalties of the first n obligations
 unfoldable pub accountsUpTo : Day → ℕ → ℕ → List Obligation → List ℤ → ℕ → List ℤ

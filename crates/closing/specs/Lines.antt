@@ -8,6 +8,23 @@ use Rattle.ledger.specs.declared.Obligation.{Obligation}
 use Rattle.closing.specs.declared.Line.{Line}
 use Rattle.closing.specs.declared.Closing.{Closing}
 
+-- C16, Close: a Close makes no more lines than this: two for each of 64 obligations and one for each of 64 offers
+abbrev pub mostLines : ℕ
+mostLines = 192
+
+-- C12, Close: the kinds of a line: a penalty, a notice, a quantity bought in, and compensation
+abbrev pub penaltyKind : ℕ
+penaltyKind = 1
+
+abbrev pub noticeKind : ℕ
+noticeKind = 2
+
+abbrev pub boughtKind : ℕ
+boughtKind = 3
+
+abbrev pub compensationKind : ℕ
+compensationKind = 4
+
 -- C11, Close: the six words of a line
 abbrev pub wordsOf : Line → List ℕ
 wordsOf l = l .kind ∷ l .obligation ∷ l .quantity ∷ l .cents ∷ l .supplier ∷ l .price ∷ []

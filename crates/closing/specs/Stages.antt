@@ -8,10 +8,11 @@ use Rattle.offers.specs.declared.Offer.{Offer}
 use Rattle.offers.specs.declared.Given.{Given}
 use Rattle.offers.specs.BuyIn.{given}
 use Rattle.ledger.specs.declared.Terms.{Terms}
+use Rattle.ledger.specs.declared.Part.the-variants.{BoughtIn, Compensated}
 use Rattle.ledger.specs.declared.Obligation.{Obligation}
-use Rattle.ledger.specs.Obligations.{withGracePrice, inBuyIn, cashOf, buyingIn, compensating}
+use Rattle.ledger.specs.Obligations.{withGracePrice, inBuyIn, cashOf, moving, movingAll}
 use Rattle.closing.specs.declared.Line.{Line}
-use Rattle.closing.specs.Lines.{Made, nothing, one, then}
+use Rattle.closing.specs.Lines.{penaltyKind, noticeKind, boughtKind, compensationKind, Made, nothing, one, then}
 
 -- C13, Close: a line whose last two words, supplier and price of the offer, are 0
 abbrev pub plainLine : ℕ → ℕ → ℕ → ℕ → Line
@@ -21,20 +22,20 @@ plainLine kind n q cents = record { kind = kind; obligation = n; quantity = q; c
 unfoldable pub priced : Terms → ℕ → ℕ → Obligation → Obligation
 priced terms age price o = pick (eqb age (terms .grace .0)) (withGracePrice price o) o
 
--- C4, C12 and C13, Close: a penalty is a line of kind 1, on all that is outstanding
+-- C4, C12 and C13, Close: a penalty is a line, on all that is outstanding
 unfoldable pub penalised : ℕ → ℕ → ℕ → Obligation → Made
-penalised n price rate o = one o (plainLine 1 n (o .parts .outstanding) (penalty (o .parts .outstanding) price rate))
+penalised n price rate o = one o (plainLine penaltyKind n (o .parts .outstanding) (penalty (o .parts .outstanding) price rate))
 
--- C6, C12 and C13, Close: a notice is a line of kind 2 with 0 cents, at age = notice
+-- C6, C12 and C13, Close: a notice is a line with 0 cents, at age = notice
 unfoldable pub noticeAt : Terms → ℕ → ℕ → Obligation → Made
-noticeAt terms age n o = pick (eqb age (terms .notice .0)) (one o (plainLine 2 n (o .parts .outstanding) 0)) (nothing o)
+noticeAt terms age n o = pick (eqb age (terms .notice .0)) (one o (plainLine noticeKind n (o .parts .outstanding) 0)) (nothing o)
 
--- C8, C9 and C12, Close: what one offer gives is bought in and makes a line of kind 3. Its charge is the value less the
--- cash, and the cash goes on from the units that were settled before it.
+-- C8, C9 and C12, Close: what one offer gives is bought in and makes a line. Its charge is the value less the cash, and
+-- the cash goes on from the units that were settled before it.
 unfoldable pub boughtFrom : ℕ → Given → Obligation → Made
 boughtFrom n g o =
-    one (buyingIn (g .quantity) o) (record {
-      kind = 3;
+    one (moving BoughtIn (g .quantity) o) (record {
+      kind = boughtKind;
       obligation = n;
       quantity = g .quantity;
       cents = charge (g .quantity) (g .offer .price) (cashOf o (g .quantity));
@@ -56,11 +57,11 @@ unfoldable pub buyInAt : Terms → ℕ → List Offer → ℕ → Obligation →
 buyInAt terms age offers n o =
     pick (inBuyIn terms age) (boughtAll n (given n (o .parts .outstanding) offers) o) (nothing o)
 
--- C10 and C12, Close: what is left, unless it is 0, is compensated and makes a line of kind 4
+-- C10 and C12, Close: what is left, unless it is 0, is compensated and makes a line
 unfoldable pub compensated : ℕ → ℕ → Obligation → Made
 compensated price n o =
     pick (eqb (o .parts .outstanding) 0) (nothing o)
-    (one (compensating o) (plainLine 4 n (o .parts .outstanding) (compensation (o .parts .outstanding) price)))
+    (one (movingAll Compensated o) (plainLine compensationKind n (o .parts .outstanding) (compensation (o .parts .outstanding) price)))
 
 -- C10, Close: compensation comes at age = last
 unfoldable pub compensatedAt : Terms → ℕ → ℕ → ℕ → Obligation → Made

@@ -1,10 +1,13 @@
 // The end of a day: what a Close does to each obligation and to the accounts, and the lines that it reports.
 use calendar::ClearingDays;
-use calendar::ClosedDays;
 use calendar::Day;
 use ledger::Ledger;
+use ledger::MOST_OBLIGATIONS;
 use ledger::Obligation;
+use ledger::Part;
+use ledger::Setup;
 use ledger::Terms;
+use netting::MEMBER_COUNT;
 use offers::BuyIn;
 use offers::Given;
 use offers::Offers;
@@ -18,21 +21,28 @@ ghost use Rattle.ledger.specs.Obligations.{Sound, Takes};
 ghost use Rattle.ledger.specs.Ledger.{ValidLedger};
 ghost use Rattle.offers.specs.Held.{listed};
 ghost use Rattle.closing.specs.Lines.{wordsOf, one, Wrote, Room};
-ghost use Rattle.closing.specs.Stages.{priced, penalised, noticeAt, boughtFrom, boughtAll, buyInAt, compensatedAt};
+ghost use Rattle.closing.specs.Stages.{plainLine, priced, penalised, noticeAt, boughtFrom, boughtAll, buyInAt, compensatedAt};
 ghost use Rattle.closing.specs.Close.{stages, closedOne, rowsUpTo, fined, accountsUpTo, closedLedger, closeLines};
 ghost use Rattle.closing.specs.Asked.{taken, Priced, Buys, Closes, Near, Closable, ClosedAs};
 
-// What a Close works with: the closed days, the terms and the day of the book, and the price and the rate that it was
-// given.
+// What a Close works with: the setup and the day of the book, and the price and the rate that it was given.
 pub struct DayEnd {
-    pub closed: ClosedDays,
-    pub terms: Terms,
+    pub setup: Setup,
     pub today: Day,
     pub price: u64,
     pub rate: u64,
 }
 
-// A line of a Close. The kind is 1 for a penalty, 2 for a notice, 3 for a quantity bought in and 4 for compensation.
+// The kinds of a line. Each has its definition in specs/, as `penaltyKind`.
+pub const PENALTY: u64 = 1;
+
+pub const NOTICE: u64 = 2;
+
+pub const BOUGHT: u64 = 3;
+
+pub const COMPENSATION: u64 = 4;
+
+// A line of a Close.
 pub struct Line {
     pub kind: u64,
     pub obligation: u64,
@@ -50,7 +60,7 @@ pub struct Closing {
 
 // All obligations after a Close, and how many lines it reported.
 pub struct ClosedRows {
-    pub obligations: [Obligation; 64],
+    pub obligations: [Obligation; MOST_OBLIGATIONS],
     pub count: usize,
 }
 
@@ -58,6 +68,20 @@ pub struct ClosedRows {
 pub struct ClosedLedger {
     pub ledger: Ledger,
     pub count: usize,
+}
+
+// A line whose last two words, supplier and price of the offer, are 0.
+fn plain_line(kind: u64, number: u64, quantity: u64, cents: u64) -> Line
+    ensures { λ r. ⌜ r ≡ plainLine kind number quantity cents ⌝ }
+{
+    Line {
+        kind: kind,
+        obligation: number,
+        quantity: quantity,
+        cents: cents,
+        supplier: 0,
+        price: 0,
+    }
 }
 
 // Writes a line behind the count lines that are there.
@@ -90,8 +114,7 @@ fn report(next: Obligation, count: usize, line: Line, lines: &mut [u64]) -> Clos
 fn keep_price(o: Obligation, terms: Terms, age: ClearingDays, price: u64) -> Obligation
     ensures { λ r. ⌜ r ≡ priced terms (age .0) price o ⌝ }
 {
-    let grace = terms.grace;
-    if age.0 == grace.0 {
+    if age.0 == terms.grace.0 {
         return o.keep_price(price);
     }
     o
@@ -104,16 +127,9 @@ fn penalise(s: Closing, number: u64, price: u64, rate: u64, lines: &mut [u64]) -
     ensures { λ r. ⌜ Wrote (s .count) (now (lines .entry)) r (now (lines .exit)) (penalised number price rate (s .obligation)) ⌝ }
 {
     let o = s.obligation;
-    let parts = o.parts;
-    let left = parts.outstanding;
-    let line = Line {
-        kind: 1,
-        obligation: number,
-        quantity: left,
-        cents: amounts::penalty_of(left, price, rate),
-        supplier: 0,
-        price: 0,
-    };
+    let left = o.parts.outstanding;
+    let cents = amounts::penalty_of(left, price, rate);
+    let line = plain_line(PENALTY, number, left, cents);
     report(o, s.count, line, lines)
 }
 
@@ -128,18 +144,9 @@ fn give_notice(
     requires { ⌜ Room (s .count) (now lines) (noticeAt terms (age .0) number (s .obligation)) ⌝ }
     ensures { λ r. ⌜ Wrote (s .count) (now (lines .entry)) r (now (lines .exit)) (noticeAt terms (age .0) number (s .obligation)) ⌝ }
 {
-    let notice = terms.notice;
-    if age.0 == notice.0 {
+    if age.0 == terms.notice.0 {
         let o = s.obligation;
-        let parts = o.parts;
-        let line = Line {
-            kind: 2,
-            obligation: number,
-            quantity: parts.outstanding,
-            cents: 0,
-            supplier: 0,
-            price: 0,
-        };
+        let line = plain_line(NOTICE, number, o.parts.outstanding, 0);
         return report(o, s.count, line, lines);
     }
     s
@@ -152,17 +159,16 @@ fn buy_from(s: Closing, number: u64, from: Given, lines: &mut [u64]) -> Closing
     ensures { λ r. ⌜ Wrote (s .count) (now (lines .entry)) r (now (lines .exit)) (boughtFrom number from (s .obligation)) ⌝ }
 {
     let o = s.obligation;
-    let offer = from.offer;
     let cash = o.cash_for(from.quantity);
     let line = Line {
-        kind: 3,
+        kind: BOUGHT,
         obligation: number,
         quantity: from.quantity,
-        cents: amounts::charge_for(from.quantity, offer.price, cash),
-        supplier: offer.supplier,
-        price: offer.price,
+        cents: amounts::charge_for(from.quantity, from.offer.price, cash),
+        supplier: from.offer.supplier,
+        price: from.offer.price,
     };
-    let next = o.buy_in(from.quantity);
+    let next = o.move_to(Part::BoughtIn, from.quantity);
     report(next, s.count, line, lines)
 }
 
@@ -198,9 +204,7 @@ fn buy_in(
     ensures { λ r. ⌜ Wrote (s .count) (now (lines .entry)) r (now (lines .exit)) (buyInAt terms (age .0) (listed offers) number (s .obligation)) ⌝ }
 {
     if terms.buys_in(age) {
-        let o = s.obligation;
-        let parts = o.parts;
-        let bought = offers.buy_in(number, parts.outstanding);
+        let bought = offers.buy_in(number, s.obligation.parts.outstanding);
         return buy_all(s, number, bought, lines);
     }
     s
@@ -219,23 +223,15 @@ fn compensate(
     requires { ⌜ Room (s .count) (now lines) (compensatedAt terms (age .0) price number (s .obligation)) ⌝ }
     ensures { λ r. ⌜ Wrote (s .count) (now (lines .entry)) r (now (lines .exit)) (compensatedAt terms (age .0) price number (s .obligation)) ⌝ }
 {
-    let last = terms.last;
-    if age.0 == last.0 {
+    if age.0 == terms.last.0 {
         let o = s.obligation;
-        let parts = o.parts;
-        let left = parts.outstanding;
+        let left = o.parts.outstanding;
         if left == 0 {
             return s;
         }
-        let line = Line {
-            kind: 4,
-            obligation: number,
-            quantity: left,
-            cents: amounts::compensation_of(left, price),
-            supplier: 0,
-            price: 0,
-        };
-        let next = o.compensate();
+        let cents = amounts::compensation_of(left, price);
+        let line = plain_line(COMPENSATION, number, left, cents);
+        let next = o.move_to(Part::Compensated, left);
         return report(next, s.count, line, lines);
     }
     s
@@ -255,7 +251,7 @@ fn close_due(
     requires { ⌜ Room count (now lines) (stages day (age .0) (listed offers) number o) ⌝ }
     ensures { λ r. ⌜ Wrote count (now (lines .entry)) r (now (lines .exit)) (stages day (age .0) (listed offers) number o) ⌝ }
 {
-    let terms = day.terms;
+    let terms = day.setup.terms;
     let price = day.price;
     let start = Closing {
         obligation: keep_price(o, terms, age, price),
@@ -282,8 +278,8 @@ fn close_one(
 {
     let today = day.today;
     if o.is_due(today) {
-        let closed = day.closed;
-        let age = closed.age_at(o.day, today);
+        let closed_days = day.setup.closed_days;
+        let age = closed_days.age_at(o.deal.day, today);
         return close_due(o, number, age, day, offers, count, lines);
     }
     Closing {
@@ -318,22 +314,27 @@ fn close_all(l: Ledger, day: DayEnd, lines: &mut [u64]) -> ClosedRows
 }
 
 // Moves the penalty of an obligation that is due from the account of the seller to that of the buyer.
-fn fine(accounts: [i64; 32], o: Obligation, today: Day, price: u64, rate: u64) -> [i64; 32]
+fn fine(
+    accounts: [i64; MEMBER_COUNT],
+    o: Obligation,
+    today: Day,
+    price: u64,
+    rate: u64,
+) -> [i64; MEMBER_COUNT]
     requires { ⌜ (Sound o) × (price ≤ mostClosePrice) × (rate ≤ mostRate) × (Bounded accounts) ⌝ }
     ensures { λ r. ⌜ r ≡ fined today price rate o accounts ⌝ }
 {
     if o.is_due(today) {
-        let parts = o.parts;
-        let cents = amounts::penalty_of(parts.outstanding, price, rate);
-        let seller = o.seller as usize;
-        let buyer = o.buyer as usize;
+        let cents = amounts::penalty_of(o.parts.outstanding, price, rate);
+        let seller = o.deal.seller as usize;
+        let buyer = o.deal.buyer as usize;
         return netting::transfer(accounts, seller, buyer, cents);
     }
     accounts
 }
 
 // Moves the penalties of all obligations.
-fn fine_all(l: Ledger, today: Day, price: u64, rate: u64) -> [i64; 32]
+fn fine_all(l: Ledger, today: Day, price: u64, rate: u64) -> [i64; MEMBER_COUNT]
     requires { ⌜ (ValidLedger l) × (Near (l .accounts)) × (price ≤ mostClosePrice) × (rate ≤ mostRate) ⌝ }
     ensures { λ r. ⌜ r ≡ accountsUpTo today price rate (l .obligations) (l .accounts) (l .count) ⌝ }
 {

@@ -14,6 +14,7 @@ use Rattle.basics.proofs.Everywhere.{every-map}
 use Rattle.basics.proofs.Places.{set-case}
 use Rattle.netting.specs.Accounts.{balance}
 use Rattle.offers.specs.declared.Offer.{Offer}
+use Rattle.offers.specs.Held.{noOffers}
 use Rattle.offers.proofs.Holding.{size-with, every-with, listed-with}
 use Rattle.offers.proofs.Ranking.{inserted-in-rank}
 use Rattle.ledger.specs.declared.Obligation.{Obligation}
@@ -21,7 +22,11 @@ use Rattle.ledger.specs.declared.Ledger.{Ledger}
 use Rattle.ledger.specs.declared.Fetched.{Fetched}
 use Rattle.ledger.specs.declared.Fetched.the-variants.{Found, Absent}
 use Rattle.ledger.specs.Obligations.{noObligation, Sound}
-use Rattle.ledger.specs.Ledger.{newLedger, obligationAt, fetched, withObligation, withNew, withOfferFor, SoundOffer, ValidLedger}
+use Rattle.ledger.specs.Ledger.{newLedger, obligationAt, fetched, withObligation, withNew, withOfferFor, SoundOffer, ValidOffers, ValidLedger}
+
+-- no offers
+pub no-offers-valid : (n : ℕ) → ValidOffers n noOffers
+no-offers-valid n = record { size = refl; few = omega arith; sound = nobody; ranked = empty }
 
 -- no obligations, no offers, all accounts zero
 pub new-valid : ValidLedger newLedger
@@ -30,12 +35,8 @@ new-valid = record {
   size = refl;
   few = omega arith;
   sound = λ n h. absurd (omega arith);
-  offers-size = refl;
-  offers-few = omega arith;
-  offers-sound = nobody;
-  offers-ranked = empty;
-  accounts-size = refl;
-  accounts-even = refl;
+  offers = no-offers-valid 0;
+  accounts = record { size = refl; even = refl };
 }
 
 -- what a number that was found is: below the count, and the obligation that stands there
@@ -72,12 +73,8 @@ module _ (l : Ledger) (v : ValidLedger l) where
     size = length-set (l .obligations) n o ∙ v .size;
     few = v .few;
     sound = λ k q. set-case Sound (l .obligations) n k o noObligation (omega (arith, v .size, v .few)) (λ e. s) (λ e. v .sound k q);
-    offers-size = v .offers-size;
-    offers-few = v .offers-few;
-    offers-sound = v .offers-sound;
-    offers-ranked = v .offers-ranked;
-    accounts-size = v .accounts-size;
-    accounts-even = v .accounts-even;
+    offers = v .offers;
+    accounts = v .accounts;
   }
 
   -- an offer for one of n obligations is one for more
@@ -97,12 +94,8 @@ module _ (l : Ledger) (v : ValidLedger l) where
     size = length-set (l .obligations) (l .count) o ∙ v .size;
     few = omega arith;
     sound = λ k q. set-case Sound (l .obligations) (l .count) k o noObligation (omega (arith, v .size)) (λ e. s) (λ e. v .sound k (below k q e));
-    offers-size = v .offers-size;
-    offers-few = v .offers-few;
-    offers-sound = every-map more-offers (v .offers-sound);
-    offers-ranked = v .offers-ranked;
-    accounts-size = v .accounts-size;
-    accounts-even = v .accounts-even;
+    offers = record { size = v .offers .size; few = v .offers .few; sound = every-map more-offers (v .offers .sound); ranked = v .offers .ranked };
+    accounts = v .accounts;
   }
     where
       below : (k : ℕ) → k < l .count + 1 → (k ≡ l .count → ⊥) → k < l .count
@@ -114,10 +107,11 @@ module _ (l : Ledger) (v : ValidLedger l) where
     size = v .size;
     few = v .few;
     sound = v .sound;
-    offers-size = size-with (l .offers) x h (v .offers-size);
-    offers-few = omega arith;
-    offers-sound = every-with (l .offers) x h (v .offers-size) s (v .offers-sound);
-    offers-ranked = rw (listed-with (l .offers) x h (v .offers-size)) (inserted-in-rank x (v .offers-ranked));
-    accounts-size = v .accounts-size;
-    accounts-even = v .accounts-even;
+    offers = record {
+      size = size-with (l .offers) x h (v .offers .size);
+      few = omega arith;
+      sound = every-with (l .offers) x h (v .offers .size) s (v .offers .sound);
+      ranked = rw (listed-with (l .offers) x h (v .offers .size)) (inserted-in-rank x (v .offers .ranked));
+    };
+    accounts = v .accounts;
   }

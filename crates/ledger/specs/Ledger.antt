@@ -2,25 +2,35 @@
 use Prim.Native.Nat.{ℕ, _+_, _≤_, _<_}
 use mathlib.Core.Path.{_≡_}
 use mathlib.Core.Bool.{false}
+use mathlib.Core.List.{List}
 use lib.Dec.{ltb}
-use lib.IntN.{pos}
+use lib.IntN.{ℤ, pos}
 use lib.ListN.{length, getD, set, replicate}
 use Rattle.basics.specs.Choice.{pick}
 use Rattle.basics.specs.Lists.{Every, Sorted}
 use Rattle.amounts.specs.Amounts.{mostQuantity, mostOfferPrice}
-use Rattle.netting.specs.Accounts.{balance}
+use Rattle.netting.specs.Accounts.{memberCount, balance}
 use Rattle.offers.specs.declared.Offer.{Offer}
+use Rattle.offers.specs.declared.Offers.{Offers}
 use Rattle.offers.specs.Rank.{overtakes}
-use Rattle.offers.specs.Held.{noOffers, listed, withOffer}
+use Rattle.offers.specs.Held.{mostOffers, noOffers, listed, withOffer}
 use Rattle.ledger.specs.declared.Obligation.{Obligation}
 use Rattle.ledger.specs.declared.Fetched.{Fetched}
 use Rattle.ledger.specs.declared.Fetched.the-variants.{Found, Absent}
 use Rattle.ledger.specs.declared.Ledger.{Ledger}
 use Rattle.ledger.specs.Obligations.{noObligation, Sound}
 
+-- E13, Enter: the most obligations of a book, each of which takes two of its legs
+abbrev pub mostObligations : ℕ
+mostObligations = 64
+
+-- R1, Refusals: the highest number of a supplier
+abbrev pub mostSupplier : ℕ
+mostSupplier = 999
+
 -- O5, Open, and M1, Month: a fresh book has no obligations and no offers, and its 32 accounts are zero
 abbrev pub newLedger : Ledger
-newLedger = record { obligations = replicate 64 noObligation; count = 0; offers = noOffers; accounts = replicate 32 (pos 0) }
+newLedger = record { obligations = replicate mostObligations noObligation; count = 0; offers = noOffers; accounts = replicate memberCount (pos 0) }
 
 -- the obligation with a number; a number without one gives an obligation of zeros, which no rule speaks of
 abbrev pub obligationAt : Ledger → ℕ → Obligation
@@ -44,25 +54,33 @@ withOfferFor o l = record { obligations = l .obligations; count = l .count; offe
 
 -- M10, Month: the accounts become zero
 abbrev pub clearedLedger : Ledger → Ledger
-clearedLedger l = record { obligations = l .obligations; count = l .count; offers = l .offers; accounts = replicate 32 (pos 0) }
+clearedLedger l = record { obligations = l .obligations; count = l .count; offers = l .offers; accounts = replicate memberCount (pos 0) }
 
 -- what holds of every offer of today, where there are n obligations
 pub record SoundOffer (n : ℕ) (x : Offer) : Type 0 where
   pub there : x .obligation < n
-  pub supplier-most : x .supplier ≤ 999
+  pub supplier-most : x .supplier ≤ mostSupplier
   pub quantity-some : 1 ≤ x .quantity
   pub quantity-most : x .quantity ≤ mostQuantity
   pub price-some : 1 ≤ x .price
   pub price-most : x .price ≤ mostOfferPrice
 
+-- what holds of the offers of today, where there are n obligations
+pub record ValidOffers (n : ℕ) (offers : Offers) : Type 0 where
+  pub size : length (offers .rows) ≡ mostOffers
+  pub few : offers .count ≤ mostOffers
+  pub sound : Every (SoundOffer n) (listed offers)
+  pub ranked : Sorted (λ x y. overtakes y x ≡ false) (listed offers)
+
+-- what holds of the accounts of every book
+pub record ValidAccounts (accounts : List ℤ) : Type 0 where
+  pub size : length accounts ≡ memberCount
+  pub even : balance accounts ≡ pos 0
+
 -- what holds of the ledger of every book
 pub record ValidLedger (l : Ledger) : Type 0 where
-  pub size : length (l .obligations) ≡ 64
-  pub few : l .count ≤ 64
+  pub size : length (l .obligations) ≡ mostObligations
+  pub few : l .count ≤ mostObligations
   pub sound : (n : ℕ) → n < l .count → Sound (obligationAt l n)
-  pub offers-size : length (l .offers .rows) ≡ 64
-  pub offers-few : l .offers .count ≤ 64
-  pub offers-sound : Every (SoundOffer (l .count)) (listed (l .offers))
-  pub offers-ranked : Sorted (λ x y. overtakes y x ≡ false) (listed (l .offers))
-  pub accounts-size : length (l .accounts) ≡ 32
-  pub accounts-even : balance (l .accounts) ≡ pos 0
+  pub offers : ValidOffers (l .count) (l .offers)
+  pub accounts : ValidAccounts (l .accounts)

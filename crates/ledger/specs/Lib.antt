@@ -1,2 +1,6 @@
+-- Setup has what a book keeps to. Parts has what becomes of a quantity. Obligations has what happens to one obligation,
+-- and Ledger to all of them.
+pub mod Setup
+pub mod Parts
 pub mod Obligations
 pub mod Ledger

@@ -1,5 +1,5 @@
 -- Obligations, and what becomes of their quantity.
-use Prim.Native.Nat.{ℕ, _+_, _-_, _≤_, _<_}
+use Prim.Native.Nat.{ℕ, _+_, _≤_, _<_}
 use mathlib.Core.Path.{_≡_}
 use mathlib.Core.Bool.{Bool, true, false, _&&_, _||_}
 use lib.Dec.{eqb, ltb, leb}
@@ -7,87 +7,52 @@ use Rattle.basics.specs.Choice.{pick}
 use Rattle.calendar.specs.declared.Day.{Day}
 use Rattle.calendar.specs.Closed.{day}
 use Rattle.amounts.specs.Amounts.{mostQuantity, mostAmount, mostClosePrice, cash}
+use Rattle.netting.specs.Accounts.{memberCount}
 use Rattle.ledger.specs.declared.Terms.{Terms}
+use Rattle.ledger.specs.declared.Part.{Part}
+use Rattle.ledger.specs.declared.Part.the-variants.{Delivered, Cancelled}
 use Rattle.ledger.specs.declared.Parts.{Parts}
+use Rattle.ledger.specs.declared.Deal.{Deal}
+use Rattle.ledger.specs.declared.Stage.{Stage}
+use Rattle.ledger.specs.declared.Wishes.{Wishes}
 use Rattle.ledger.specs.declared.Obligation.{Obligation}
+use Rattle.ledger.specs.Parts.{partsBy, moved, allParts}
 
--- the parts of a quantity of 0
-abbrev pub noParts : Parts
-noParts = record { delivered = 0; «bought_in» = 0; compensated = 0; cancelled = 0; outstanding = 0 }
+-- R11, Refusals: the latest settlement day
+abbrev pub latestDay : ℕ
+latestDay = 60000
+
+-- E9, Enter: a new obligation has come to no stage yet
+abbrev pub newStage : Stage
+newStage = record { «grace_price» = 0 }
+
+-- of a new obligation nobody wishes to cancel
+abbrev pub noWishes : Wishes
+noWishes = record { seller = false; buyer = false }
+
+-- E8 and E9, Enter: a new obligation, of which the whole of Q is outstanding
+abbrev pub newObligation : Deal → Obligation
+newObligation d = record { deal = d; parts = partsBy (λ k. 0) (d .quantity); stage = newStage; wishes = noWishes }
 
 -- a place that no obligation has taken holds this one
 abbrev pub noObligation : Obligation
-noObligation = record {
-  seller = 0;
-  buyer = 0;
-  quantity = 0;
-  amount = 0;
-  day = day 0;
-  parts = noParts;
-  «seller_wish» = false;
-  «buyer_wish» = false;
-  «grace_price» = 0;
-}
+noObligation = newObligation (record { seller = 0; buyer = 0; quantity = 0; amount = 0; day = day 0 })
 
 -- an obligation with other parts
 abbrev pub withParts : Parts → Obligation → Obligation
-withParts p o = record {
-  seller = o .seller;
-  buyer = o .buyer;
-  quantity = o .quantity;
-  amount = o .amount;
-  day = o .day;
-  parts = p;
-  «seller_wish» = o .«seller_wish»;
-  «buyer_wish» = o .«buyer_wish»;
-  «grace_price» = o .«grace_price»;
-}
+withParts p o = record { deal = o .deal; parts = p; stage = o .stage; wishes = o .wishes }
+
+-- an obligation at another stage
+abbrev pub withStage : Stage → Obligation → Obligation
+withStage s o = record { deal = o .deal; parts = o .parts; stage = s; wishes = o .wishes }
 
 -- an obligation with other wishes
-abbrev pub withWishes : Bool → Bool → Obligation → Obligation
-withWishes s b o = record {
-  seller = o .seller;
-  buyer = o .buyer;
-  quantity = o .quantity;
-  amount = o .amount;
-  day = o .day;
-  parts = o .parts;
-  «seller_wish» = s;
-  «buyer_wish» = b;
-  «grace_price» = o .«grace_price»;
-}
+abbrev pub withWishes : Wishes → Obligation → Obligation
+withWishes w o = record { deal = o .deal; parts = o .parts; stage = o .stage; wishes = w }
 
 -- an obligation with another price at age = grace
 abbrev pub withGracePrice : ℕ → Obligation → Obligation
-withGracePrice price o = record {
-  seller = o .seller;
-  buyer = o .buyer;
-  quantity = o .quantity;
-  amount = o .amount;
-  day = o .day;
-  parts = o .parts;
-  «seller_wish» = o .«seller_wish»;
-  «buyer_wish» = o .«buyer_wish»;
-  «grace_price» = price;
-}
-
--- E8 and E9, Enter: a new obligation, of which the whole of Q is outstanding
-abbrev pub newObligation : ℕ → ℕ → ℕ → ℕ → Day → Obligation
-newObligation seller buyer quantity amount j = record {
-  seller = seller;
-  buyer = buyer;
-  quantity = quantity;
-  amount = amount;
-  day = j;
-  parts = record { delivered = 0; «bought_in» = 0; compensated = 0; cancelled = 0; outstanding = quantity };
-  «seller_wish» = false;
-  «buyer_wish» = false;
-  «grace_price» = 0;
-}
-
--- J10, Whole journals: the sum of the parts, which is Q
-unfoldable pub allParts : Parts → ℕ
-allParts p = p .delivered + p .«bought_in» + p .compensated + p .cancelled + p .outstanding
+withGracePrice price o = withStage (record { «grace_price» = price }) o
 
 -- V3, Deliver: the units settled are those delivered and those bought in
 unfoldable pub settled : Obligation → ℕ
@@ -95,52 +60,42 @@ settled o = o .parts .delivered + o .parts .«bought_in»
 
 -- V2, Deliver: the cash for q units that are settled next
 unfoldable pub cashOf : Obligation → ℕ → ℕ
-cashOf o q = cash (o .amount) (o .quantity) (settled o) (settled o + q)
+cashOf o q = cash (o .deal .amount) (o .deal .quantity) (settled o) (settled o + q)
+
+-- V1, C8, C10 and K3: q units of an obligation move from outstanding to the part k
+unfoldable pub moving : Part → ℕ → Obligation → Obligation
+moving k q o = withParts (moved k q (o .parts)) o
+
+-- C10 and K3: all that is outstanding becomes the part k
+abbrev pub movingAll : Part → Obligation → Obligation
+movingAll k o = moving k (o .parts .outstanding) o
 
 -- V1, Deliver: q units move from outstanding to delivered
-unfoldable pub delivering : ℕ → Obligation → Obligation
-delivering q o =
-    let p = o .parts in
-    withParts (record {
-      delivered = p .delivered + q;
-      «bought_in» = p .«bought_in»;
-      compensated = p .compensated;
-      cancelled = p .cancelled;
-      outstanding = p .outstanding - q;
-    }) o
+abbrev pub delivering : ℕ → Obligation → Obligation
+delivering = moving Delivered
 
 -- K1, Cancel: the seller and the buyer are the parties
 unfoldable pub isParty : Obligation → ℕ → Bool
-isParty o member = eqb (o .seller) member || eqb (o .buyer) member
+isParty o member = eqb (o .deal .seller) member || eqb (o .deal .buyer) member
 
 -- K1, Cancel: whether a party's wish is recorded
 unfoldable pub hasWished : Obligation → ℕ → Bool
-hasWished o member = pick (eqb (o .seller) member) (o .«seller_wish») (o .«buyer_wish»)
+hasWished o member = pick (eqb (o .deal .seller) member) (o .wishes .seller) (o .wishes .buyer)
 
 -- K1, Cancel: the obligation with a party's wish recorded
 unfoldable pub withWish : ℕ → Obligation → Obligation
 withWish member o =
-    pick (eqb (o .seller) member) (withWishes true (o .«buyer_wish») o) (withWishes (o .«seller_wish») true o)
+    pick (eqb (o .deal .seller) member) (withWishes (record { seller = true; buyer = o .wishes .buyer }) o)
+    (withWishes (record { seller = o .wishes .seller; buyer = true }) o)
 
 -- K3, Cancel: whether the wishes of both parties are recorded
 unfoldable pub bothWish : Obligation → Bool
-bothWish o = o .«seller_wish» && o .«buyer_wish»
+bothWish o = o .wishes .seller && o .wishes .buyer
 
--- K3, Cancel: all that is outstanding becomes cancelled
-unfoldable pub cancelling : Obligation → Obligation
-cancelling o =
-    let p = o .parts in
-    withParts (record {
-      delivered = p .delivered;
-      «bought_in» = p .«bought_in»;
-      compensated = p .compensated;
-      cancelled = p .cancelled + p .outstanding;
-      outstanding = 0;
-    }) o
-
--- K2 and K3, Cancel: the first wish is only recorded, the wish of the other party cancels
+-- K2 and K3, Cancel: the first wish is only recorded; with the wish of the other party all that is outstanding becomes
+-- cancelled
 unfoldable pub wishing : ℕ → Obligation → Obligation
-wishing member o = pick (bothWish (withWish member o)) (cancelling (withWish member o)) (withWish member o)
+wishing member o = pick (bothWish (withWish member o)) (movingAll Cancelled (withWish member o)) (withWish member o)
 
 -- K2 and K3, Cancel: the quantity that a wish moves, which is 0 for the first wish
 unfoldable pub movedByWish : ℕ → Obligation → ℕ
@@ -152,44 +107,28 @@ inBuyIn terms age = ltb (terms .grace .0) age && leb age (terms .last .0)
 
 -- C2, Close: J is today or earlier, and something is outstanding
 unfoldable pub isDue : Day → Obligation → Bool
-isDue today o = leb (o .day .0) (today .0) && ltb 0 (o .parts .outstanding)
+isDue today o = leb (o .deal .day .0) (today .0) && ltb 0 (o .parts .outstanding)
 
--- C8, Close: q units move from outstanding to bought in
-unfoldable pub buyingIn : ℕ → Obligation → Obligation
-buyingIn q o =
-    let p = o .parts in
-    withParts (record {
-      delivered = p .delivered;
-      «bought_in» = p .«bought_in» + q;
-      compensated = p .compensated;
-      cancelled = p .cancelled;
-      outstanding = p .outstanding - q;
-    }) o
+-- what holds of every deal of a book
+pub record SoundDeal (d : Deal) : Type 0 where
+  pub quantity-some : 1 ≤ d .quantity
+  pub quantity-most : d .quantity ≤ mostQuantity
+  pub amount-some : 1 ≤ d .amount
+  pub amount-most : d .amount ≤ mostAmount
+  pub seller-below : d .seller < memberCount
+  pub buyer-below : d .buyer < memberCount
+  pub parties-apart : d .seller ≡ d .buyer → ⊥
+  pub day-most : d .day .0 ≤ latestDay
 
--- C10, Close: all that is left becomes compensated
-unfoldable pub compensating : Obligation → Obligation
-compensating o =
-    let p = o .parts in
-    withParts (record {
-      delivered = p .delivered;
-      «bought_in» = p .«bought_in»;
-      compensated = p .compensated + p .outstanding;
-      cancelled = p .cancelled;
-      outstanding = 0;
-    }) o
+-- what holds of every obligation's stage
+pub record SoundStage (s : Stage) : Type 0 where
+  pub price-most : s .«grace_price» ≤ mostClosePrice
 
 -- what holds of every obligation of a book
 pub record Sound (o : Obligation) : Type 0 where
-  pub quantity-some : 1 ≤ o .quantity
-  pub quantity-most : o .quantity ≤ mostQuantity
-  pub amount-some : 1 ≤ o .amount
-  pub amount-most : o .amount ≤ mostAmount
-  pub seller-below : o .seller < 32
-  pub buyer-below : o .buyer < 32
-  pub parties-apart : o .seller ≡ o .buyer → ⊥
-  pub day-most : o .day .0 ≤ 60000
-  pub whole : allParts (o .parts) ≡ o .quantity
-  pub price-most : o .«grace_price» ≤ mostClosePrice
+  pub deal : SoundDeal (o .deal)
+  pub whole : allParts (o .parts) ≡ o .deal .quantity
+  pub stage : SoundStage (o .stage)
 
 -- a sound obligation with at least q outstanding
 pub record Takes (o : Obligation) (q : ℕ) : Type 0 where

@@ -1,15 +1,29 @@
 // The ledger: obligations with their parts, the day's offers and the members' accounts, and what a delivery, a wish
 // to cancel and an offer do to them.
 use calendar::ClearingDays;
+use calendar::ClosedDays;
 use calendar::Day;
+use netting::MEMBER_COUNT;
 use offers::Offer;
 use offers::Offers;
 ghost use mathlib.Core.Path.{_≡_};
 ghost use Prim.Native.Nat.{_+_, _≤_, _<_};
-ghost use Rattle.ledger.specs.Obligations.{newObligation, settled, cashOf, delivering, Sound, Takes};
-ghost use Rattle.ledger.specs.Obligations.{inBuyIn, isDue, buyingIn, compensating, withGracePrice};
-ghost use Rattle.ledger.specs.Obligations.{isParty, hasWished, withWish, bothWish, cancelling, wishing, movedByWish};
-ghost use Rattle.ledger.specs.Ledger.{newLedger, fetched, withObligation, withNew, withOfferFor, clearedLedger};
+ghost use Rattle.amounts.specs.Amounts.{mostQuantity};
+ghost use Rattle.offers.specs.Held.{mostOffers};
+ghost use Rattle.ledger.specs.Parts.{moved, allParts};
+ghost use Rattle.ledger.specs.Obligations.{newObligation, settled, cashOf, moving, Sound, Takes};
+ghost use Rattle.ledger.specs.Obligations.{inBuyIn, isDue, withGracePrice};
+ghost use Rattle.ledger.specs.Obligations.{isParty, hasWished, withWish, bothWish, wishing, movedByWish};
+ghost use Rattle.ledger.specs.Ledger.{mostObligations, newLedger, fetched, withObligation, withNew, withOfferFor, clearedLedger};
+
+// The most obligations of a book; `mostObligations` in specs/.
+pub const MOST_OBLIGATIONS: usize = 64;
+
+// The latest settlement day; `latestDay` in specs/.
+pub const LATEST_DAY: u64 = 60_000;
+
+// The highest number of a supplier; `mostSupplier` in specs/.
+pub const MOST_SUPPLIER: u64 = 999;
 
 // The stages of an obligation's life: at which age notice is given, after which age the house buys in, and the age of
 // the last day.
@@ -17,6 +31,20 @@ pub struct Terms {
     pub notice: ClearingDays,
     pub grace: ClearingDays,
     pub last: ClearingDays,
+}
+
+// What a book keeps to from its Open on: its closed days and the terms of its stages.
+pub struct Setup {
+    pub closed_days: ClosedDays,
+    pub terms: Terms,
+}
+
+// What can become of a quantity that was outstanding.
+pub enum Part {
+    Delivered,
+    BoughtIn,
+    Compensated,
+    Cancelled,
 }
 
 // What has become of an obligation's quantity so far. The five add up to it.
@@ -28,18 +56,33 @@ pub struct Parts {
     pub outstanding: u64,
 }
 
-// A seller owes a buyer a quantity against an amount on a settlement day, which docs/RULES.md calls J.
-pub struct Obligation {
+// What was agreed: a seller owes a buyer a quantity against an amount on a settlement day, which docs/RULES.md calls J.
+pub struct Deal {
     pub seller: u64,
     pub buyer: u64,
     pub quantity: u64,
     pub amount: u64,
     pub day: Day,
-    pub parts: Parts,
-    pub seller_wish: bool,
-    pub buyer_wish: bool,
+}
+
+// How far an obligation has come in its stages.
+pub struct Stage {
     // The price of the Close at age = grace; 0 before it.
     pub grace_price: u64,
+}
+
+// Which parties wish to cancel.
+pub struct Wishes {
+    pub seller: bool,
+    pub buyer: bool,
+}
+
+// A deal with what has become of it.
+pub struct Obligation {
+    pub deal: Deal,
+    pub parts: Parts,
+    pub stage: Stage,
+    pub wishes: Wishes,
 }
 
 // The answer to a number that names an obligation.
@@ -50,14 +93,14 @@ pub enum Fetched {
 
 // The obligations, numbered from 0 (the first count of them), the offers of today and the accounts.
 pub struct Ledger {
-    pub obligations: [Obligation; 64],
+    pub obligations: [Obligation; MOST_OBLIGATIONS],
     pub count: usize,
     pub offers: Offers,
-    pub accounts: [i64; 32],
+    pub accounts: [i64; MEMBER_COUNT],
 }
 
 // The parts of a quantity of 0.
-const NO_PARTS: Parts = Parts {
+pub const NO_PARTS: Parts = Parts {
     delivered: 0,
     bought_in: 0,
     compensated: 0,
@@ -65,17 +108,27 @@ const NO_PARTS: Parts = Parts {
     outstanding: 0,
 };
 
+// A new obligation has come to no stage yet.
+const NEW_STAGE: Stage = Stage { grace_price: 0 };
+
+// Of a new obligation nobody wishes to cancel.
+const NO_WISHES: Wishes = Wishes {
+    seller: false,
+    buyer: false,
+};
+
 // A place that no obligation has taken holds this one.
 const NO_OBLIGATION: Obligation = Obligation {
-    seller: 0,
-    buyer: 0,
-    quantity: 0,
-    amount: 0,
-    day: Day(0),
+    deal: Deal {
+        seller: 0,
+        buyer: 0,
+        quantity: 0,
+        amount: 0,
+        day: Day(0),
+    },
     parts: NO_PARTS,
-    seller_wish: false,
-    buyer_wish: false,
-    grace_price: 0,
+    stage: NEW_STAGE,
+    wishes: NO_WISHES,
 };
 
 impl Terms {
@@ -83,32 +136,40 @@ impl Terms {
     pub fn buys_in(self, age: ClearingDays) -> bool
         ensures { λ r. ⌜ r ≡ inBuyIn self (age .0) ⌝ }
     {
-        let grace = self.grace;
-        let last = self.last;
-        if grace.0 < age.0 {
-            return age.0 <= last.0;
+        self.grace.0 < age.0 && age.0 <= self.last.0
+    }
+}
+
+impl Parts {
+    // Moves a quantity from outstanding to a part.
+    pub fn move_to(self, part: Part, quantity: u64) -> Parts
+        requires { ⌜ (quantity ≤ self .outstanding) × (allParts self ≤ mostQuantity) ⌝ }
+        ensures { λ r. ⌜ r ≡ moved part quantity self ⌝ }
+    {
+        let mut next = self;
+        next.outstanding -= quantity;
+        match part {
+            Part::Delivered => next.delivered += quantity,
+            Part::BoughtIn => next.bought_in += quantity,
+            Part::Compensated => next.compensated += quantity,
+            Part::Cancelled => next.cancelled += quantity,
         }
-        false
+        next
     }
 }
 
 impl Obligation {
-    // Makes a new obligation, of which all is outstanding.
-    pub fn new(seller: u64, buyer: u64, quantity: u64, amount: u64, day: Day) -> Obligation
-        ensures { λ r. ⌜ r ≡ newObligation seller buyer quantity amount day ⌝ }
+    // Makes the obligation of a new deal, of which all is outstanding.
+    pub fn new(deal: Deal) -> Obligation
+        ensures { λ r. ⌜ r ≡ newObligation deal ⌝ }
     {
         let mut parts = NO_PARTS;
-        parts.outstanding = quantity;
+        parts.outstanding = deal.quantity;
         Obligation {
-            seller: seller,
-            buyer: buyer,
-            quantity: quantity,
-            amount: amount,
-            day: day,
+            deal: deal,
             parts: parts,
-            seller_wish: false,
-            buyer_wish: false,
-            grace_price: 0,
+            stage: NEW_STAGE,
+            wishes: NO_WISHES,
         }
     }
 
@@ -117,8 +178,7 @@ impl Obligation {
         requires { ⌜ Sound self ⌝ }
         ensures { λ r. ⌜ r ≡ settled self ⌝ }
     {
-        let parts = self.parts;
-        parts.delivered + parts.bought_in
+        self.parts.delivered + self.parts.bought_in
     }
 
     // The cash for a quantity that is settled next.
@@ -127,19 +187,23 @@ impl Obligation {
         ensures { λ r. ⌜ r ≡ cashOf self quantity ⌝ }
     {
         let so_far = self.settled_so_far();
-        amounts::cash_for(self.amount, self.quantity, so_far, so_far + quantity)
+        amounts::cash_for(
+            self.deal.amount,
+            self.deal.quantity,
+            so_far,
+            so_far + quantity,
+        )
     }
 
-    // A quantity moves from outstanding to delivered.
-    pub fn deliver(self, quantity: u64) -> Obligation
+    // A quantity moves from outstanding to a part.
+    pub fn move_to(self, part: Part, quantity: u64) -> Obligation
         requires { ⌜ Takes self quantity ⌝ }
-        ensures { λ r. ⌜ r ≡ delivering quantity self ⌝ }
+        ensures { λ r. ⌜ r ≡ moving part quantity self ⌝ }
     {
-        let mut parts = self.parts;
-        parts.delivered += quantity;
-        parts.outstanding -= quantity;
+        let parts = self.parts;
+        let after = parts.move_to(part, quantity);
         let mut next = self;
-        next.parts = parts;
+        next.parts = after;
         next
     }
 
@@ -147,38 +211,7 @@ impl Obligation {
     pub fn is_due(self, today: Day) -> bool
         ensures { λ r. ⌜ r ≡ isDue today self ⌝ }
     {
-        let day = self.day;
-        let parts = self.parts;
-        if day.0 <= today.0 {
-            return 0 < parts.outstanding;
-        }
-        false
-    }
-
-    // A quantity moves from outstanding to bought in.
-    pub fn buy_in(self, quantity: u64) -> Obligation
-        requires { ⌜ Takes self quantity ⌝ }
-        ensures { λ r. ⌜ r ≡ buyingIn quantity self ⌝ }
-    {
-        let mut parts = self.parts;
-        parts.bought_in += quantity;
-        parts.outstanding -= quantity;
-        let mut next = self;
-        next.parts = parts;
-        next
-    }
-
-    // All that is left moves to compensated.
-    pub fn compensate(self) -> Obligation
-        requires { ⌜ Sound self ⌝ }
-        ensures { λ r. ⌜ r ≡ compensating self ⌝ }
-    {
-        let mut parts = self.parts;
-        parts.compensated += parts.outstanding;
-        parts.outstanding = 0;
-        let mut next = self;
-        next.parts = parts;
-        next
+        self.deal.day.0 <= today.0 && 0 < self.parts.outstanding
     }
 
     // Keeps the price of the Close at age = grace.
@@ -186,7 +219,7 @@ impl Obligation {
         ensures { λ r. ⌜ r ≡ withGracePrice price self ⌝ }
     {
         let mut next = self;
-        next.grace_price = price;
+        next.stage.grace_price = price;
         next
     }
 
@@ -194,20 +227,17 @@ impl Obligation {
     pub fn is_party(self, member: u64) -> bool
         ensures { λ r. ⌜ r ≡ isParty self member ⌝ }
     {
-        if self.seller == member {
-            return true;
-        }
-        self.buyer == member
+        self.deal.seller == member || self.deal.buyer == member
     }
 
     // Whether the wish of a party to cancel is recorded.
     pub fn has_wished(self, member: u64) -> bool
         ensures { λ r. ⌜ r ≡ hasWished self member ⌝ }
     {
-        if self.seller == member {
-            return self.seller_wish;
+        if self.deal.seller == member {
+            return self.wishes.seller;
         }
-        self.buyer_wish
+        self.wishes.buyer
     }
 
     // Records a party's wish to cancel.
@@ -215,11 +245,11 @@ impl Obligation {
         ensures { λ r. ⌜ r ≡ withWish member self ⌝ }
     {
         let mut next = self;
-        if self.seller == member {
-            next.seller_wish = true;
+        if self.deal.seller == member {
+            next.wishes.seller = true;
             return next;
         }
-        next.buyer_wish = true;
+        next.wishes.buyer = true;
         next
     }
 
@@ -227,24 +257,7 @@ impl Obligation {
     fn both_wish(self) -> bool
         ensures { λ r. ⌜ r ≡ bothWish self ⌝ }
     {
-        if self.seller_wish {
-            self.buyer_wish
-        } else {
-            false
-        }
-    }
-
-    // All that is outstanding moves to cancelled.
-    fn cancel(self) -> Obligation
-        requires { ⌜ Sound self ⌝ }
-        ensures { λ r. ⌜ r ≡ cancelling self ⌝ }
-    {
-        let mut parts = self.parts;
-        parts.cancelled += parts.outstanding;
-        parts.outstanding = 0;
-        let mut next = self;
-        next.parts = parts;
-        next
+        self.wishes.seller && self.wishes.buyer
     }
 
     // Records a party's wish, and cancels what is outstanding if the other party has wished it before.
@@ -254,7 +267,7 @@ impl Obligation {
     {
         let next = self.with_wish(member);
         if next.both_wish() {
-            next.cancel()
+            next.move_to(Part::Cancelled, next.parts.outstanding)
         } else {
             next
         }
@@ -265,9 +278,8 @@ impl Obligation {
         ensures { λ r. ⌜ r ≡ movedByWish member self ⌝ }
     {
         let next = self.with_wish(member);
-        let parts = self.parts;
         if next.both_wish() {
-            parts.outstanding
+            self.parts.outstanding
         } else {
             0
         }
@@ -280,16 +292,16 @@ impl Ledger {
         ensures { λ r. ⌜ r ≡ newLedger ⌝ }
     {
         Ledger {
-            obligations: [NO_OBLIGATION; 64],
+            obligations: [NO_OBLIGATION; MOST_OBLIGATIONS],
             count: 0,
             offers: Offers::none(),
-            accounts: [0i64; 32],
+            accounts: [0i64; MEMBER_COUNT],
         }
     }
 
     // Finds the obligation with a number.
     pub fn fetch(self, number: u64) -> Fetched
-        requires { ⌜ self .count ≤ 64 ⌝ }
+        requires { ⌜ self .count ≤ mostObligations ⌝ }
         ensures { λ r. ⌜ r ≡ fetched self number ⌝ }
     {
         let count = self.count;
@@ -302,7 +314,7 @@ impl Ledger {
 
     // Puts another obligation under a number.
     pub fn replace(mut self, number: u64, next: Obligation) -> Ledger
-        requires { ⌜ number < 64 ⌝ }
+        requires { ⌜ number < mostObligations ⌝ }
         ensures { λ r. ⌜ r ≡ withObligation number next self ⌝ }
     {
         let i = number as usize;
@@ -312,7 +324,7 @@ impl Ledger {
 
     // Adds an obligation, which gets the next number.
     pub fn add(mut self, next: Obligation) -> Ledger
-        requires { ⌜ self .count < 64 ⌝ }
+        requires { ⌜ self .count < mostObligations ⌝ }
         ensures { λ r. ⌜ r ≡ withNew next self ⌝ }
     {
         let i = self.count;
@@ -323,7 +335,7 @@ impl Ledger {
 
     // Adds an offer to those of today.
     pub fn offer(mut self, next: Offer) -> Ledger
-        requires { ⌜ self .offers .count < 64 ⌝ }
+        requires { ⌜ self .offers .count < mostOffers ⌝ }
         ensures { λ r. ⌜ r ≡ withOfferFor next self ⌝ }
     {
         let held = self.offers;
@@ -336,7 +348,7 @@ impl Ledger {
     pub fn clear(mut self) -> Ledger
         ensures { λ r. ⌜ r ≡ clearedLedger self ⌝ }
     {
-        let zeros = [0i64; 32];
+        let zeros = [0i64; MEMBER_COUNT];
         self.accounts = zeros;
         self
     }

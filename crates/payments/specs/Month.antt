@@ -6,13 +6,13 @@ use lib.Dec.{eqb, ltb}
 use lib.IntN.{ℤ}
 use lib.ListN.{length}
 use Rattle.basics.specs.Lists.{sum}
-use Rattle.netting.specs.Accounts.{owed, claims}
+use Rattle.netting.specs.Accounts.{memberCount, owed, claims}
 use Rattle.netting.specs.Shares.{shares}
 use Rattle.refusals.specs.Refusals.{Refusal, refuse, answer, outcome}
 
 -- R5, Refusals, of Month: one of the two lists has not just 32 words
 abbrev pub badLists : ℕ → ℕ → Bool
-badLists collected places = not (eqb collected 32) || not (eqb places 32)
+badLists collected places = not (eqb collected memberCount) || not (eqb places memberCount)
 
 -- R19, Refusals: an amount is above what its member owes
 unfoldable pub overCollected : List ℤ → List ℕ → Bool

@@ -11,12 +11,15 @@ use Rattle.calendar.specs.declared.NextDay.the-variants.{At, Never}
 use Rattle.calendar.specs.Closed.{lastDay, listed}
 use Rattle.calendar.specs.Days.{clearing}
 use Rattle.amounts.specs.Amounts.{mostQuantity, mostAmount, mostClosePrice, mostOfferPrice, mostRate, aboveCap}
+use Rattle.offers.specs.Held.{mostOffers}
 use Rattle.instructions.specs.declared.Leg.{Leg}
+use Rattle.instructions.specs.Legs.{mostLegs}
 use Rattle.ledger.specs.declared.Terms.{Terms}
 use Rattle.ledger.specs.declared.Obligation.{Obligation}
 use Rattle.ledger.specs.declared.Fetched.{Fetched}
 use Rattle.ledger.specs.declared.Fetched.the-variants.{Found, Absent}
-use Rattle.ledger.specs.Obligations.{isParty, hasWished, inBuyIn}
+use Rattle.ledger.specs.Obligations.{latestDay, isParty, hasWished, inBuyIn}
+use Rattle.ledger.specs.Ledger.{mostSupplier}
 use Rattle.refusals.specs.Refusals.{Refusal, refuse, answer, outcome, outside, noMember}
 
 -- ---- calls that name an obligation
@@ -35,7 +38,7 @@ fetchOutcome input (Found o) on done refused = outcome (answer (fetchRefusals in
 -- ---- Open and Enter
 -- R11, Refusals, of Open: the first day does not clear or is above 65,535
 abbrev pub badFirst : ClosedDays → Day → Bool
-badFirst closed first = ltb lastDay (first .0) || not (clearing (listed closed) first)
+badFirst closedDays first = ltb lastDay (first .0) || not (clearing (listed closedDays) first)
 
 -- R1, Refusals, of Enter: a member is above 31, both members are the same, or the side is above 1
 abbrev pub badParties : ℕ → ℕ → ℕ → Bool
@@ -43,16 +46,16 @@ badParties member other side = noMember member || (noMember other || (eqb member
 
 -- R11, Refusals, of Enter: J does not clear, is before today or is above 60,000
 abbrev pub badDay : ClosedDays → Day → Day → Bool
-badDay closed today j = not (clearing (listed closed) j) || (ltb (j .0) (today .0) || ltb 60000 (j .0))
+badDay closedDays today j = not (clearing (listed closedDays) j) || (ltb (j .0) (today .0) || ltb latestDay (j .0))
 
 -- A7, Refusals, of Enter: in a book with these closed days, this day and this many legs
 unfoldable pub enterRefusals : ClosedDays → Day → ℕ → Leg → List Refusal
-enterRefusals closed today legs new =
+enterRefusals closedDays today legs new =
     refuse 1 (badParties (new .member) (new .other) (new .side))
     ∷ refuse 2 (outside 1 mostQuantity (new .quantity))
     ∷ refuse 3 (outside 1 mostAmount (new .amount))
-    ∷ refuse 11 (badDay closed today (new .day))
-    ∷ refuse 12 (leb 128 legs)
+    ∷ refuse 11 (badDay closedDays today (new .day))
+    ∷ refuse 12 (leb mostLegs legs)
     ∷ []
 
 -- ---- Cancel
@@ -76,14 +79,14 @@ deliverRefusalsIn q = refuse 2 (outside 1 mostQuantity q) ∷ []
 unfoldable pub deliverRefusalsOf : Day → Obligation → ℕ → List Refusal
 deliverRefusalsOf today o q =
     refuse 15 (ltb (o .parts .outstanding) q)
-    ∷ refuse 16 (ltb (today .0) (o .day .0))
+    ∷ refuse 16 (ltb (today .0) (o .deal .day .0))
     ∷ []
 
 -- ---- Offer
 -- A11 and R1 to R3, Refusals, of Offer from its input
 unfoldable pub offerRefusalsIn : ℕ → ℕ → ℕ → List Refusal
 offerRefusalsIn supplier q price =
-    refuse 1 (ltb 999 supplier)
+    refuse 1 (ltb mostSupplier supplier)
     ∷ refuse 2 (outside 1 mostQuantity q)
     ∷ refuse 3 (outside 1 mostOfferPrice price)
     ∷ []
@@ -92,9 +95,9 @@ offerRefusalsIn supplier q price =
 unfoldable pub offerRefusalsOf : Terms → Day → ℕ → ℕ → Obligation → ℕ → List Refusal
 offerRefusalsOf terms today age offers o price =
     refuse 15 (eqb (o .parts .outstanding) 0)
-    ∷ refuse 16 (ltb (today .0) (o .day .0) || not (inBuyIn terms age))
-    ∷ refuse 17 (leb 64 offers)
-    ∷ refuse 18 (aboveCap price (o .«grace_price»))
+    ∷ refuse 16 (ltb (today .0) (o .deal .day .0) || not (inBuyIn terms age))
+    ∷ refuse 17 (leb mostOffers offers)
+    ∷ refuse 18 (aboveCap price (o .stage .«grace_price»))
     ∷ []
 
 -- ---- Close

@@ -1,9 +1,10 @@
 -- Refusals: numbered conditions, of which the smallest that holds is given.
-use Prim.Native.Nat.{ℕ}
+use Prim.Native.Nat.{ℕ, _-_}
 use mathlib.Core.Bool.{Bool, _||_}
 use mathlib.Core.List.{List, [], _∷_}
 use lib.Dec.{ltb, eqb}
 use Rattle.basics.specs.Choice.{pick}
+use Rattle.netting.specs.Accounts.{memberCount}
 
 -- a refusal: its number, and whether its condition holds
 pub record Refusal : Type 0 where
@@ -27,6 +28,10 @@ outcome n done refused = pick (eqb n 0) done (refused n)
 abbrev pub outside : ℕ → ℕ → ℕ → Bool
 outside low high x = ltb x low || ltb high x
 
--- R1, Refusals: the member is above 31
+-- R1, Refusals: the highest number of a member is 31
+abbrev pub lastMember : ℕ
+lastMember = memberCount - 1
+
+-- R1, Refusals: there is no member with this number
 abbrev pub noMember : ℕ → Bool
-noMember m = ltb 31 m
+noMember m = ltb lastMember m

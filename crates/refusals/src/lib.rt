@@ -1,11 +1,22 @@
 // The refusals that need no book: from a call's input, and on the obligation that was fetched. Each function gives the
 // answer number of its list of refusals, 0 where none holds.
+use amounts::MOST_AMOUNT;
+use amounts::MOST_CLOSE_PRICE;
+use amounts::MOST_OFFER_PRICE;
+use amounts::MOST_QUANTITY;
+use amounts::MOST_RATE;
 use calendar::ClearingDays;
 use calendar::ClosedDays;
 use calendar::Day;
+use calendar::LAST_DAY;
 use instructions::Leg;
+use instructions::MOST_LEGS;
+use ledger::LATEST_DAY;
+use ledger::MOST_SUPPLIER;
 use ledger::Obligation;
 use ledger::Terms;
+use netting::MEMBER_COUNT;
+use offers::MOST_OFFERS;
 ghost use mathlib.Core.Path.{_≡_};
 ghost use Prim.Native.Nat.{_≤_};
 ghost use Rattle.amounts.specs.Amounts.{mostOfferPrice, mostClosePrice};
@@ -13,77 +24,57 @@ ghost use Rattle.refusals.specs.Refusals.{outside, answer};
 ghost use Rattle.refusals.specs.Calls.{badFirst, badParties, badDay, enterRefusals, cancelRefusalsOf};
 ghost use Rattle.refusals.specs.Calls.{deliverRefusalsOf, offerRefusalsIn, offerRefusalsOf, badRates, closeRefusalsIn};
 
+// The highest number of a member; `lastMember` in specs/.
+pub const LAST_MEMBER: u64 = MEMBER_COUNT as u64 - 1;
+
+// The fewest words of the list of a Close; `fewestWords` in specs/.
+const FEWEST_WORDS: usize = 1_152;
+
 // Whether a number is below `low` or above `high`.
 pub fn is_outside(low: u64, high: u64, x: u64) -> bool
     ensures { λ r. ⌜ r ≡ outside low high x ⌝ }
 {
-    if x < low {
-        return true;
-    }
-    high < x
+    x < low || high < x
 }
 
 // Whether the members or the side of an instruction are refused.
 pub fn are_bad_parties(member: u64, other: u64, side: u64) -> bool
     ensures { λ r. ⌜ r ≡ badParties member other side ⌝ }
 {
-    if 31 < member {
-        return true;
-    }
-    if 31 < other {
-        return true;
-    }
-    if member == other {
-        return true;
-    }
-    1 < side
+    LAST_MEMBER < member || (LAST_MEMBER < other || (member == other || 1 < side))
 }
 
-// Whether a first day is refused: it is above 65,535, or it does not clear.
-pub fn is_bad_first(closed: ClosedDays, first: Day) -> bool
-    ensures { λ r. ⌜ r ≡ badFirst closed first ⌝ }
+// Whether a first day is refused: it is above the last day, or it does not clear.
+pub fn is_bad_first(closed_days: ClosedDays, first: Day) -> bool
+    ensures { λ r. ⌜ r ≡ badFirst «closed_days» first ⌝ }
 {
-    if 65_535 < first.0 {
-        return true;
-    }
-    if closed.is_clearing(first) {
-        false
-    } else {
-        true
-    }
+    LAST_DAY < first.0 || !closed_days.is_clearing(first)
 }
 
-// Whether a settlement day is refused: it does not clear, is before today or is above 60,000.
-fn is_bad_day(closed: ClosedDays, today: Day, day: Day) -> bool
-    ensures { λ r. ⌜ r ≡ badDay closed today day ⌝ }
+// Whether a settlement day is refused: it does not clear, is before today or is above the latest day.
+fn is_bad_day(closed_days: ClosedDays, today: Day, day: Day) -> bool
+    ensures { λ r. ⌜ r ≡ badDay «closed_days» today day ⌝ }
 {
-    if closed.is_clearing(day) {} else {
-        return true;
-    }
-    if day.0 < today.0 {
-        return true;
-    }
-    60_000 < day.0
+    !closed_days.is_clearing(day) || (day.0 < today.0 || LATEST_DAY < day.0)
 }
 
 // The answer number of an instruction, in a book with these closed days, this day and this many legs.
-pub fn enter_answer(closed: ClosedDays, today: Day, legs: usize, leg: Leg) -> u64
-    ensures { λ r. ⌜ r ≡ answer (enterRefusals closed today legs leg) ⌝ }
+pub fn enter_answer(closed_days: ClosedDays, today: Day, legs: usize, leg: Leg) -> u64
+    ensures { λ r. ⌜ r ≡ answer (enterRefusals «closed_days» today legs leg) ⌝ }
 {
     if are_bad_parties(leg.member, leg.other, leg.side) {
         return 1;
     }
-    if is_outside(1, 100_000, leg.quantity) {
+    if is_outside(1, MOST_QUANTITY, leg.quantity) {
         return 2;
     }
-    if is_outside(1, 20_000_000_000, leg.amount) {
+    if is_outside(1, MOST_AMOUNT, leg.amount) {
         return 3;
     }
-    let day = leg.day;
-    if is_bad_day(closed, today, day) {
+    if is_bad_day(closed_days, today, leg.day) {
         return 11;
     }
-    if 128 <= legs {
+    if MOST_LEGS <= legs {
         return 12;
     }
     0
@@ -93,14 +84,10 @@ pub fn enter_answer(closed: ClosedDays, today: Day, legs: usize, leg: Leg) -> u6
 pub fn cancel_answer(found: Obligation, member: u64) -> u64
     ensures { λ r. ⌜ r ≡ answer (cancelRefusalsOf found member) ⌝ }
 {
-    if found.is_party(member) {} else {
+    if !found.is_party(member) || found.has_wished(member) {
         return 14;
     }
-    if found.has_wished(member) {
-        return 14;
-    }
-    let parts = found.parts;
-    if parts.outstanding == 0 {
+    if found.parts.outstanding == 0 {
         return 15;
     }
     0
@@ -110,12 +97,10 @@ pub fn cancel_answer(found: Obligation, member: u64) -> u64
 pub fn deliver_answer(today: Day, found: Obligation, quantity: u64) -> u64
     ensures { λ r. ⌜ r ≡ answer (deliverRefusalsOf today found quantity) ⌝ }
 {
-    let parts = found.parts;
-    if parts.outstanding < quantity {
+    if found.parts.outstanding < quantity {
         return 15;
     }
-    let day = found.day;
-    if today.0 < day.0 {
+    if today.0 < found.deal.day.0 {
         return 16;
     }
     0
@@ -125,13 +110,13 @@ pub fn deliver_answer(today: Day, found: Obligation, quantity: u64) -> u64
 pub fn offer_answer(supplier: u64, quantity: u64, price: u64) -> u64
     ensures { λ r. ⌜ r ≡ answer (offerRefusalsIn supplier quantity price) ⌝ }
 {
-    if 999 < supplier {
+    if MOST_SUPPLIER < supplier {
         return 1;
     }
-    if is_outside(1, 100_000, quantity) {
+    if is_outside(1, MOST_QUANTITY, quantity) {
         return 2;
     }
-    if is_outside(1, 200_000, price) {
+    if is_outside(1, MOST_OFFER_PRICE, price) {
         return 3;
     }
     0
@@ -146,24 +131,19 @@ pub fn offer_answer_of(
     found: Obligation,
     price: u64,
 ) -> u64
-    requires { ⌜ (price ≤ mostOfferPrice) × (found .«grace_price» ≤ mostClosePrice) ⌝ }
+    requires { ⌜ (price ≤ mostOfferPrice) × (found .stage .«grace_price» ≤ mostClosePrice) ⌝ }
     ensures { λ r. ⌜ r ≡ answer (offerRefusalsOf terms today (age .0) offers found price) ⌝ }
 {
-    let parts = found.parts;
-    if parts.outstanding == 0 {
+    if found.parts.outstanding == 0 {
         return 15;
     }
-    let day = found.day;
-    if today.0 < day.0 {
+    if today.0 < found.deal.day.0 || !terms.buys_in(age) {
         return 16;
     }
-    if terms.buys_in(age) {} else {
-        return 16;
-    }
-    if 64 <= offers {
+    if MOST_OFFERS <= offers {
         return 17;
     }
-    if amounts::above_cap(price, found.grace_price) {
+    if amounts::above_cap(price, found.stage.grace_price) {
         return 18;
     }
     0
@@ -173,10 +153,7 @@ pub fn offer_answer_of(
 fn are_bad_rates(price: u64, rate: u64) -> bool
     ensures { λ r. ⌜ r ≡ badRates price rate ⌝ }
 {
-    if is_outside(1, 150_000, price) {
-        return true;
-    }
-    100 < rate
+    is_outside(1, MOST_CLOSE_PRICE, price) || MOST_RATE < rate
 }
 
 // The answer number of a Close by its own numbers, with this many words lent.
@@ -186,7 +163,7 @@ pub fn close_answer(price: u64, rate: u64, words: usize) -> u64
     if are_bad_rates(price, rate) {
         return 3;
     }
-    if words < 1_152 {
+    if words < FEWEST_WORDS {
         return 5;
     }
     0

@@ -10,21 +10,21 @@ cash-for-requires : tie.Need-cash-for-requires
 cash-for-requires c κs = search needs
 
 charge-for-requires : tie.Need-charge-for-requires
-charge-for-requires c κs = let h = c .before .before .before .before .pre .0 in (omega (arith, outstanding-most _ (h .0 .sound), h .0 .enough), h .1)
+charge-for-requires c κs = let h = c .before .before .before .pre .0 in (omega (arith, outstanding-most _ (h .0 .sound), h .0 .enough), h .1)
 
-buy-in-requires : tie.Need-buy-in-requires
-buy-in-requires c κs = search needs
+move-to-requires : tie.Need-move-to-requires
+move-to-requires c κs = search needs
 
 report-requires : tie.Need-report-requires
 unfolding boughtFrom
-report-requires c κs = c .before .before .before .before .before .before .before .pre .1
+report-requires c κs = c .before .before .before .before .before .before .pre .1
 
 same-length : tie.Need-same-length
 same-length c = search needs
 
 returns : tie.Need-returns
 unfolding boughtFrom
-returns c = rw (← c .before .before .before .before .before .before .cash-for .ensures, ← c .before .before .before .before .before .charge-for .ensures, ← c .before .before .before .before .buy-in .ensures) (c .before .before .report .ensures)
+returns c = rw (← c .before .before .before .before .before .before .cash-for .ensures, ← c .before .before .before .before .before .charge-for .ensures, ← c .before .before .before .before .move-to .ensures) (c .before .before .report .ensures)
 
 pub buy-from-spec : {M : Type 1} → statement M
 buy-from-spec =
@@ -32,7 +32,7 @@ buy-from-spec =
     (tie.spec
     cash-for-requires
     charge-for-requires
-    buy-in-requires
+    move-to-requires
     report-requires
     same-length
     returns)

@@ -51,7 +51,7 @@ returns c = let a = c .before .before .before .before .before .args in let h = c
     let s : Done (a .day) (listed (a .l .offers)) (a .l .obligations) (a .l .count) (c .before .loop .next) (c .before .loop .count) (a .lines .now) (c .before .loop .lines) =
     subst (λ (k : ℕ). Done (a .day) (listed (a .l .offers)) (a .l .obligations) k (c .before .loop .next) (c .before .loop .count) (a .lines .now) (c .before .loop .lines))
     (le-antisymm (c .before .loop .inv .0) (c .loop-test .left)) (c .before .loop .inv .1) in
-    done-all _ _ _ _ _ _ _ _ s (omega (arith, lines-most (a .day) (a .l .obligations) (a .l .offers) (h .apart) (h .valid .offers-few) (a .l .count) (h .valid .few), h .long))
+    done-all _ _ _ _ _ _ _ _ s (omega (arith, lines-most (a .day) (a .l .obligations) (a .l .offers) (h .setup .terms) (h .valid .offers .few) (a .l .count) (h .valid .few), h .long))
 
 pub close-all-spec : {M : Type 1} → statement M
 close-all-spec =

@@ -11,27 +11,30 @@ use Rattle.closing.proofs.compensate.Tie as tie
 
 returns : tie.Need-returns
 unfolding compensatedAt compensated
-returns c = rw (eq-eqb _ _ (c .before .before .before .if1 .taken), eq-eqb _ _ (c .if2 .taken)) (wrote-nothing (c .before .before .before .before .before .before .before .before .args .s) _)
+returns c = rw (eq-eqb _ _ (c .before .before .if1 .taken), eq-eqb _ _ (c .if2 .taken)) (wrote-nothing (c .before .before .before .before .before .before .args .s) _)
 
 compensation-of-requires : tie.Need-compensation-of-requires
-compensation-of-requires c κs = let h = c .before .before .before .before .before .before .before .before .pre .0 in (outstanding-most _ (h .0), h .1)
+compensation-of-requires c κs = let h = c .before .before .before .before .before .before .pre .0 in (outstanding-most _ (h .0), h .1)
 
-compensate-requires : tie.Need-compensate-requires
-compensate-requires c κs = search needs
+plain-line-requires : tie.Need-plain-line-requires
+plain-line-requires c κs = search needs
+
+move-to-requires : tie.Need-move-to-requires
+move-to-requires c κs = search needs
 
 report-requires : tie.Need-report-requires
-report-requires c κs = omega (arith, compensated-one (c .before .before .before .before .before .before .before .before .before .before .before .args .terms) (c .before .before .before .before .before .before .before .before .before .before .before .args .age .0) (c .before .before .before .before .before .before .before .before .before .before .before .args .price) (c .before .before .before .before .before .before .before .before .before .before .before .args .number) (c .before .before .before .before .before .before .before .before .before .before .before .args .s .obligation) (c .before .before .before .before .before .before .if1 .taken) (c .before .before .before .if2 .left), c .before .before .before .before .before .before .before .before .before .before .before .pre .1)
+report-requires c κs = omega (arith, compensated-one (c .before .before .before .before .before .before .before .before .before .before .args .terms) (c .before .before .before .before .before .before .before .before .before .before .args .age .0) (c .before .before .before .before .before .before .before .before .before .before .args .price) (c .before .before .before .before .before .before .before .before .before .before .args .number) (c .before .before .before .before .before .before .before .before .before .before .args .s .obligation) (c .before .before .before .before .before .before .if1 .taken) (c .before .before .before .before .if2 .left), c .before .before .before .before .before .before .before .before .before .before .pre .1)
 
 same-length : tie.Need-same-length
 same-length c = search needs
 
 returns-2 : tie.Need-returns-2
 unfolding compensatedAt compensated
-returns-2 c = rw (eq-eqb _ _ (c .before .before .before .before .before .before .before .before .before .if1 .taken), ne-eqb _ _ (c .before .before .before .before .before .before .if2 .left), ← c .before .before .before .before .before .compensation-of .ensures, ← c .before .before .before .before .compensate .ensures) (c .before .before .report .ensures)
+returns-2 c = rw (eq-eqb _ _ (c .before .before .before .before .before .before .before .before .before .if1 .taken), ne-eqb _ _ (c .before .before .before .before .before .before .before .if2 .left), ← c .before .before .before .before .before .before .compensation-of .ensures, ← c .before .before .before .before .before .plain-line .ensures, ← c .before .before .before .before .move-to .ensures) (c .before .before .report .ensures)
 
 returns-3 : tie.Need-returns-3
 unfolding compensatedAt
-returns-3 c = rw (ne-eqb _ _ (c .if1 .left)) (wrote-nothing (c .before .before .before .before .before .args .s) _)
+returns-3 c = rw (ne-eqb _ _ (c .if1 .left)) (wrote-nothing (c .before .before .before .before .args .s) _)
 
 pub compensate-spec : {M : Type 1} → statement M
 compensate-spec =
@@ -39,7 +42,8 @@ compensate-spec =
     (tie.spec
     returns
     compensation-of-requires
-    compensate-requires
+    plain-line-requires
+    move-to-requires
     report-requires
     same-length
     returns-2

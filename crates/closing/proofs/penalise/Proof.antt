@@ -6,7 +6,10 @@ use Rattle.closing.proofs.penalise.Statement.{statement}
 use Rattle.closing.proofs.penalise.Tie as tie
 
 penalty-of-requires : tie.Need-penalty-of-requires
-penalty-of-requires c κs = let h = c .before .before .before .pre .0 in (outstanding-most _ (h .0), h .1, h .2)
+penalty-of-requires c κs = let h = c .before .before .pre .0 in (outstanding-most _ (h .0), h .1, h .2)
+
+plain-line-requires : tie.Need-plain-line-requires
+plain-line-requires c κs = search needs
 
 report-requires : tie.Need-report-requires
 unfolding penalised
@@ -17,7 +20,7 @@ same-length c = search needs
 
 returns : tie.Need-returns
 unfolding penalised
-returns c = rw (← c .before .before .before .before .penalty-of .ensures) (c .before .before .report .ensures)
+returns c = rw (← c .before .before .before .before .before .penalty-of .ensures, ← c .before .before .before .before .plain-line .ensures) (c .before .before .report .ensures)
 
 pub penalise-spec : {M : Type 1} → statement M
-penalise-spec = tie.close (tie.spec penalty-of-requires report-requires same-length returns)
+penalise-spec = tie.close (tie.spec penalty-of-requires plain-line-requires report-requires same-length returns)

@@ -1,6 +1,5 @@
 -- `settle_month` meets its contract.
 use Prim.Native.Nat.{ℕ}
-use mathlib.Core.Bool.{not}
 use mathlib.Core.Path.{_≡_, refl, sym, ap, _∙_}
 use lib.ListN.{length}
 use borrow.Author.Needs.{needs}
@@ -38,7 +37,7 @@ returns-3 : tie.Need-returns-3
 unfolding monthRefusals paidOut
 returns-3 c = let t = sym (c .before .before .before .before .before .are-bad-lists .ensures) ∙ c .before .before .before .before .if1 .left in
     let u = sym (c .before .before .is-over .ensures ∙ ap (overCollected _) (c .before .before .before .amounts-of .ensures)) ∙ c .before .if2 .left in
-    let e = pass 5 _ t ∙ pass 19 _ u ∙ stop 21 _ (ap not (c .if3 .left)) in (sym e, (refused-by 21 _ _ (λ k. c .before .before .before .before .before .before .before .before .args .places .now) e refl, refl))
+    let e = pass 5 _ t ∙ pass 19 _ u ∙ stop 21 _ (c .if3 .taken) in (sym e, (refused-by 21 _ _ (λ k. c .before .before .before .before .before .before .before .before .args .places .now) e refl, refl))
 
 sum-of-requires : tie.Need-sum-of-requires
 sum-of-requires c κs = let a = c .before .before .before .before .before .before .before .before .args in let h = c .before .before .before .before .before .before .before .before .pre in
@@ -65,7 +64,7 @@ unfolding monthRefusals paidOut
 returns-4 c = let a = c .before .before .before .before .before .before .before .before .before .before .before .before .before .before .args in
     let t = sym (c .before .before .before .before .before .before .before .before .before .before .before .are-bad-lists .ensures) ∙ c .before .before .before .before .before .before .before .before .before .before .if1 .left in
     let u = sym (c .before .before .before .before .before .before .before .before .is-over .ensures ∙ ap (overCollected _) (c .before .before .before .before .before .before .before .before .before .amounts-of .ensures)) ∙ c .before .before .before .before .before .before .before .if2 .left in
-    let e = pass 5 _ t ∙ pass 19 _ u ∙ pass 21 _ (ap not (c .before .before .before .before .before .before .if3 .taken)) ∙ all-passed in
+    let e = pass 5 _ t ∙ pass 19 _ u ∙ pass 21 _ (c .before .before .before .before .before .before .if3 .left) ∙ all-passed in
     let all = c .before .before .before .before .before .sum-of .ensures ∙ ap sum (c .before .before .before .before .before .before .before .before .before .amounts-of .ensures) in
     (sym e, (c .before .before .pay .ensures ∙ c .before .before .before .before .shares-of .ensures ∙ ap (λ (n : ℕ). shares n (claims (a .accounts))) all ∙ done-by _ _ (λ k. a .places .now) e, refl))
 

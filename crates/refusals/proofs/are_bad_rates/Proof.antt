@@ -8,7 +8,7 @@ is-outside-requires : tie.Need-is-outside-requires
 is-outside-requires c κs = search needs
 
 returns : tie.Need-returns
-returns c = rw (sym (c .before .is-outside .ensures) ∙ c .if1 .taken)
+returns c = rw (sym (c .before .is-outside .ensures) ∙ c .if1 .taken) (c .if1 .taken)
 
 returns-2 : tie.Need-returns-2
 returns-2 c = rw (sym (c .before .is-outside .ensures) ∙ c .if1 .left)

@@ -12,11 +12,11 @@ returns c = sym (stop 15 _ (lt-ltb _ _ (c .if1 .taken)))
 
 returns-2 : tie.Need-returns-2
 unfolding deliverRefusalsOf
-returns-2 c = sym (pass 15 _ (le-ltb _ _ (c .before .before .before .before .if1 .left)) ∙ stop 16 _ (lt-ltb _ _ (c .if2 .taken)))
+returns-2 c = sym (pass 15 _ (le-ltb _ _ (c .before .before .before .if1 .left)) ∙ stop 16 _ (lt-ltb _ _ (c .if2 .taken)))
 
 returns-3 : tie.Need-returns-3
 unfolding deliverRefusalsOf
-returns-3 c = sym (pass 15 _ (le-ltb _ _ (c .before .before .before .before .if1 .left)) ∙ pass 16 _ (le-ltb _ _ (c .if2 .left)) ∙ all-passed)
+returns-3 c = sym (pass 15 _ (le-ltb _ _ (c .before .before .before .if1 .left)) ∙ pass 16 _ (le-ltb _ _ (c .if2 .left)) ∙ all-passed)
 
 pub deliver-answer-spec : {M : Type 1} → statement M
 deliver-answer-spec = tie.close (tie.spec returns returns-2 returns-3)

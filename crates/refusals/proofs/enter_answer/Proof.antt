@@ -33,15 +33,15 @@ is-bad-day-requires c κs = search needs
 
 returns-4 : tie.Need-returns-4
 unfolding enterRefusals
-returns-4 c = sym (pass 1 _ (sym (c .before .before .before .before .before .before .before .before .are-bad-parties .ensures) ∙ c .before .before .before .before .before .before .before .if1 .left) ∙ pass 2 _ (sym (c .before .before .before .before .before .before .is-outside .ensures) ∙ c .before .before .before .before .before .if2 .left) ∙ pass 3 _ (sym (c .before .before .before .before .is-outside2 .ensures) ∙ c .before .before .before .if3 .left) ∙ stop 11 _ (sym (c .before .is-bad-day .ensures) ∙ c .if4 .taken))
+returns-4 c = sym (pass 1 _ (sym (c .before .before .before .before .before .before .before .are-bad-parties .ensures) ∙ c .before .before .before .before .before .before .if1 .left) ∙ pass 2 _ (sym (c .before .before .before .before .before .is-outside .ensures) ∙ c .before .before .before .before .if2 .left) ∙ pass 3 _ (sym (c .before .before .before .is-outside2 .ensures) ∙ c .before .before .if3 .left) ∙ stop 11 _ (sym (c .before .is-bad-day .ensures) ∙ c .if4 .taken))
 
 returns-5 : tie.Need-returns-5
 unfolding enterRefusals
-returns-5 c = sym (pass 1 _ (sym (c .before .before .before .before .before .before .before .before .before .are-bad-parties .ensures) ∙ c .before .before .before .before .before .before .before .before .if1 .left) ∙ pass 2 _ (sym (c .before .before .before .before .before .before .before .is-outside .ensures) ∙ c .before .before .before .before .before .before .if2 .left) ∙ pass 3 _ (sym (c .before .before .before .before .before .is-outside2 .ensures) ∙ c .before .before .before .before .if3 .left) ∙ pass 11 _ (sym (c .before .before .is-bad-day .ensures) ∙ c .before .if4 .left) ∙ stop 12 _ (le-leb _ _ (c .if5 .taken)))
+returns-5 c = sym (pass 1 _ (sym (c .before .before .before .before .before .before .before .before .are-bad-parties .ensures) ∙ c .before .before .before .before .before .before .before .if1 .left) ∙ pass 2 _ (sym (c .before .before .before .before .before .before .is-outside .ensures) ∙ c .before .before .before .before .before .if2 .left) ∙ pass 3 _ (sym (c .before .before .before .before .is-outside2 .ensures) ∙ c .before .before .before .if3 .left) ∙ pass 11 _ (sym (c .before .before .is-bad-day .ensures) ∙ c .before .if4 .left) ∙ stop 12 _ (le-leb _ _ (c .if5 .taken)))
 
 returns-6 : tie.Need-returns-6
 unfolding enterRefusals
-returns-6 c = sym (pass 1 _ (sym (c .before .before .before .before .before .before .before .before .before .are-bad-parties .ensures) ∙ c .before .before .before .before .before .before .before .before .if1 .left) ∙ pass 2 _ (sym (c .before .before .before .before .before .before .before .is-outside .ensures) ∙ c .before .before .before .before .before .before .if2 .left) ∙ pass 3 _ (sym (c .before .before .before .before .before .is-outside2 .ensures) ∙ c .before .before .before .before .if3 .left) ∙ pass 11 _ (sym (c .before .before .is-bad-day .ensures) ∙ c .before .if4 .left) ∙ pass 12 _ (lt-leb _ _ (c .if5 .left)) ∙ all-passed)
+returns-6 c = sym (pass 1 _ (sym (c .before .before .before .before .before .before .before .before .are-bad-parties .ensures) ∙ c .before .before .before .before .before .before .before .if1 .left) ∙ pass 2 _ (sym (c .before .before .before .before .before .before .is-outside .ensures) ∙ c .before .before .before .before .before .if2 .left) ∙ pass 3 _ (sym (c .before .before .before .before .is-outside2 .ensures) ∙ c .before .before .before .if3 .left) ∙ pass 11 _ (sym (c .before .before .is-bad-day .ensures) ∙ c .before .if4 .left) ∙ pass 12 _ (lt-leb _ _ (c .if5 .left)) ∙ all-passed)
 
 pub enter-answer-spec : {M : Type 1} → statement M
 enter-answer-spec =

@@ -8,13 +8,13 @@ is-clearing-requires : tie.Need-is-clearing-requires
 is-clearing-requires c κs = search needs
 
 returns : tie.Need-returns
-returns c = rw (← c .before .is-clearing .ensures, c .if1 .left)
+returns c = rw (← c .before .is-clearing .ensures, c .if1 .taken)
 
 returns-2 : tie.Need-returns-2
-returns-2 c = rw (← c .before .before .before .before .is-clearing .ensures, c .before .before .before .if1 .taken, lt-ltb _ _ (c .if2 .taken))
+returns-2 c = rw (← c .before .before .before .before .is-clearing .ensures, c .before .before .before .if1 .left, lt-ltb _ _ (c .if2 .taken))
 
 returns-3 : tie.Need-returns-3
-returns-3 c = rw (← c .before .before .before .before .before .is-clearing .ensures, c .before .before .before .before .if1 .taken, le-ltb _ _ (c .before .if2 .left))
+returns-3 c = rw (← c .before .before .before .before .before .is-clearing .ensures, c .before .before .before .before .if1 .left, le-ltb _ _ (c .before .if2 .left))
 
 pub is-bad-day-spec : {M : Type 1} → statement M
 is-bad-day-spec = tie.close (tie.spec is-clearing-requires returns returns-2 returns-3)

@@ -11,10 +11,7 @@ is-clearing-requires : tie.Need-is-clearing-requires
 is-clearing-requires c κs = search needs
 
 returns-2 : tie.Need-returns-2
-returns-2 c = rw (le-ltb _ _ (c .before .before .if1 .left), ← c .before .is-clearing .ensures, c .if2 .taken)
-
-returns-3 : tie.Need-returns-3
-returns-3 c = rw (le-ltb _ _ (c .before .before .if1 .left), ← c .before .is-clearing .ensures, c .if2 .left)
+returns-2 c = rw (le-ltb _ _ (c .before .if1 .left), ← c .is-clearing .ensures)
 
 pub is-bad-first-spec : {M : Type 1} → statement M
-is-bad-first-spec = tie.close (tie.spec returns is-clearing-requires returns-2 returns-3)
+is-bad-first-spec = tie.close (tie.spec is-clearing-requires returns returns-2)

@@ -1,5 +1,6 @@
 -- `offer_answer_of` meets its contract.
 use mathlib.Core.Path.{sym, _∙_}
+use mathlib.Core.Logic.{⊎-elim}
 use borrow.Author.Needs.{needs}
 use borrow.Author.Tests.{lt-ltb, le-ltb, le-leb, lt-leb, eq-eqb, ne-eqb}
 use Rattle.refusals.specs.Calls.{offerRefusalsOf}
@@ -11,41 +12,38 @@ returns : tie.Need-returns
 unfolding offerRefusalsOf
 returns c = sym (stop 15 _ (eq-eqb _ _ (c .if1 .taken)))
 
-returns-2 : tie.Need-returns-2
-unfolding offerRefusalsOf
-returns-2 c = sym (pass 15 _ (ne-eqb _ _ (c .before .before .before .before .if1 .left)) ∙ stop 16 _ (rw (lt-ltb _ _ (c .if2 .taken))))
-
 buys-in-requires : tie.Need-buys-in-requires
 buys-in-requires c κs = search needs
 
+returns-2 : tie.Need-returns-2
+unfolding offerRefusalsOf
+returns-2 c =
+    sym (pass 15 _ (ne-eqb _ _ (c .before .before .before .if1 .left))
+    ∙ stop 16 _ (⊎-elim (λ x. rw (lt-ltb _ _ (x .taken))) (λ x. rw (le-ltb _ _ (x .0 .left), ← x .1 .ensures, x .2 .taken)) (c .if2 .came)))
+
 returns-3 : tie.Need-returns-3
 unfolding offerRefusalsOf
-returns-3 c = sym (pass 15 _ (ne-eqb _ _ (c .before .before .before .before .before .before .if1 .left)) ∙ stop 16 _ (rw (le-ltb _ _ (c .before .before .if2 .left), ← c .before .buys-in .ensures, c .if3 .left)))
-
-returns-4 : tie.Need-returns-4
-unfolding offerRefusalsOf
-returns-4 c = sym (pass 15 _ (ne-eqb _ _ (c .before .before .before .before .before .before .before .if1 .left)) ∙ pass 16 _ (rw (le-ltb _ _ (c .before .before .before .if2 .left), ← c .before .before .buys-in .ensures, c .before .if3 .taken)) ∙ stop 17 _ (le-leb _ _ (c .if4 .taken)))
+returns-3 c = sym (pass 15 _ (ne-eqb _ _ (c .before .before .before .before .before .before .if1 .left)) ∙ pass 16 _ (rw (le-ltb _ _ (c .before .before .before .if2 .left), ← c .before .before .buys-in .ensures, c .before .if3 .left)) ∙ stop 17 _ (le-leb _ _ (c .if4 .taken)))
 
 above-cap-requires : tie.Need-above-cap-requires
 above-cap-requires c κs = search needs
 
+returns-4 : tie.Need-returns-4
+unfolding offerRefusalsOf
+returns-4 c = sym (pass 15 _ (ne-eqb _ _ (c .before .before .before .before .before .before .before .before .if1 .left)) ∙ pass 16 _ (rw (le-ltb _ _ (c .before .before .before .before .before .if2 .left), ← c .before .before .before .before .buys-in .ensures, c .before .before .before .if3 .left)) ∙ pass 17 _ (lt-leb _ _ (c .before .before .if4 .left)) ∙ stop 18 _ (sym (c .before .above-cap .ensures) ∙ c .if5 .taken))
+
 returns-5 : tie.Need-returns-5
 unfolding offerRefusalsOf
-returns-5 c = sym (pass 15 _ (ne-eqb _ _ (c .before .before .before .before .before .before .before .before .before .if1 .left)) ∙ pass 16 _ (rw (le-ltb _ _ (c .before .before .before .before .before .if2 .left), ← c .before .before .before .before .buys-in .ensures, c .before .before .before .if3 .taken)) ∙ pass 17 _ (lt-leb _ _ (c .before .before .if4 .left)) ∙ stop 18 _ (sym (c .before .above-cap .ensures) ∙ c .if5 .taken))
-
-returns-6 : tie.Need-returns-6
-unfolding offerRefusalsOf
-returns-6 c = sym (pass 15 _ (ne-eqb _ _ (c .before .before .before .before .before .before .before .before .before .if1 .left)) ∙ pass 16 _ (rw (le-ltb _ _ (c .before .before .before .before .before .if2 .left), ← c .before .before .before .before .buys-in .ensures, c .before .before .before .if3 .taken)) ∙ pass 17 _ (lt-leb _ _ (c .before .before .if4 .left)) ∙ pass 18 _ (sym (c .before .above-cap .ensures) ∙ c .if5 .left) ∙ all-passed)
+returns-5 c = sym (pass 15 _ (ne-eqb _ _ (c .before .before .before .before .before .before .before .before .if1 .left)) ∙ pass 16 _ (rw (le-ltb _ _ (c .before .before .before .before .before .if2 .left), ← c .before .before .before .before .buys-in .ensures, c .before .before .before .if3 .left)) ∙ pass 17 _ (lt-leb _ _ (c .before .before .if4 .left)) ∙ pass 18 _ (sym (c .before .above-cap .ensures) ∙ c .if5 .left) ∙ all-passed)
 
 pub offer-answer-of-spec : {M : Type 1} → statement M
 offer-answer-of-spec =
     tie.close
     (tie.spec
     returns
-    returns-2
     buys-in-requires
+    returns-2
     returns-3
-    returns-4
     above-cap-requires
-    returns-5
-    returns-6)
+    returns-4
+    returns-5)

@@ -23,7 +23,7 @@ array-copy-out-cents c = search needs
 
 returns-2 : tie.Need-returns-2
 unfolding account
-returns-2 c = (ap (λ (z : ℤ). record { answer = 0; cents = z; book = c .before .before .before .before .args .self }) (read-is (getD (c .before .before .before .before .args .self .ledger .accounts) (c .before .before .before .before .args .member) (pos 0)) (omega (arith, c .before .before .before .before .pre .accounts-near (c .before .before .before .before .args .member), c .before .before .before .before .pre .today-most))) ∙ done-by _ _ (accountRefused _) (pass 1 _ (le-ltb _ _ (c .before .before .before .if1 .left)) ∙ all-passed), c .before .before .before .before .pre)
+returns-2 c = (ap (λ (z : ℤ). record { answer = 0; cents = z; book = c .before .before .before .before .args .self }) (read-is (getD (c .before .before .before .before .args .self .ledger .accounts) (c .before .before .before .before .args .member) (pos 0)) (omega (arith, c .before .before .before .before .pre .accounts-near (c .before .before .before .before .args .member), c .before .before .before .before .pre .day .today-most))) ∙ done-by _ _ (accountRefused _) (pass 1 _ (le-ltb _ _ (c .before .before .before .if1 .left)) ∙ all-passed), c .before .before .before .before .pre)
 
 pub account-spec : {M : Type 1} → statement M
 account-spec = tie.close (tie.spec returns mul-cents array-copy-out-cents returns-2)

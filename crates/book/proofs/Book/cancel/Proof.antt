@@ -44,10 +44,10 @@ unfolding cancel
 returns-3 c = (found-refused _ _ _ (cancelRefused _) refl (pass 1 _ (le-ltb _ _ (c .before .before .before .before .before .before .before .if1 .left)) ∙ all-passed) _ _ _ (sym (c .before .before .before .before .before .fetch .ensures) ∙ c .before .before .before .found .given .1) (sym (c .before .cancel-answer .ensures)) (c .if2 .taken), c .before .before .before .before .before .before .before .before .pre)
 
 wish-requires : tie.Need-wish-requires
-wish-requires c κs = there-sound _ (c .before .before .before .before .before .before .before .before .pre .ledger-valid) _ _ (there (c .before .before .before))
+wish-requires c κs = there-sound _ (c .before .before .before .before .before .before .before .before .pre .ledger) _ _ (there (c .before .before .before))
 
 replace-requires : tie.Need-replace-requires
-replace-requires c κs = omega (arith, ltb-true (c .before .before .before .before .before .before .before .before .before .args .obligation) (c .before .before .before .before .before .before .before .before .before .args .self .ledger .count) (there (c .before .before .before .before) .below), c .before .before .before .before .before .before .before .before .before .pre .ledger-valid .few)
+replace-requires c κs = omega (arith, ltb-true (c .before .before .before .before .before .before .before .before .before .args .obligation) (c .before .before .before .before .before .before .before .before .before .args .self .ledger .count) (there (c .before .before .before .before) .below), c .before .before .before .before .before .before .before .before .before .pre .ledger .few)
 
 moved-by-wish-requires : tie.Need-moved-by-wish-requires
 moved-by-wish-requires c κs = search needs

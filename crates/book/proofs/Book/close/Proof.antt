@@ -24,21 +24,21 @@ enum-told : tie.Need-enum-told
 enum-told c = search needs
 
 returns-2 : tie.Need-returns-2
-returns-2 c = let a = c .before .before .before .before .before .before .before .before .args in
-    refused-end (a .self) (c .before .before .before .before .before .before .before .before .pre) (a .price) (a .rate) 20 (a .lines .now)
-    (close-never _ _ _ _ (sym (c .before .before .next-after .ensures) ∙ c .enum-told .given .1) (sym (c .before .before .before .before .before .before .close-answer .ensures) ∙ c .before .before .before .before .before .if1 .left))
+returns-2 c = let a = c .before .before .before .before .before .before .before .before .before .args in
+    refused-end (a .self) (c .before .before .before .before .before .before .before .before .before .pre) (a .price) (a .rate) 20 (a .lines .now)
+    (close-never _ _ _ _ (sym (c .before .before .next-after .ensures) ∙ c .enum-told .given .1) (sym (c .before .before .before .before .before .before .before .close-answer .ensures) ∙ c .before .before .before .before .before .before .if1 .left))
     (λ z. absurd (omega arith))
 
 close-requires : tie.Need-close-requires
-close-requires c κs = let a = c .before .before .before .before .before .before .before .before .before .before .before .before .args in
-    done-closable (a .self) (c .before .before .before .before .before .before .before .before .before .before .before .before .pre) (a .price) (a .rate) (a .lines .now) (sym (c .before .before .before .before .before .before .before .before .before .before .close-answer .ensures) ∙ c .before .before .before .before .before .before .before .before .before .if1 .left) _ (sym (c .before .before .before .before .before .before .next-after .ensures) ∙ c .before .before .before .before .next .given .1)
+close-requires c κs = let a = c .before .before .before .before .before .before .before .before .before .before .before .args in
+    done-closable (a .self) (c .before .before .before .before .before .before .before .before .before .before .before .pre) (a .price) (a .rate) (a .lines .now) (sym (c .before .before .before .before .before .before .before .before .before .close-answer .ensures) ∙ c .before .before .before .before .before .before .before .before .if1 .left) _ (sym (c .before .before .before .before .next-after .ensures) ∙ c .before .before .next .given .1)
 
 same-length : tie.Need-same-length
 same-length c = search needs
 
 returns-3 : tie.Need-returns-3
-returns-3 c = let a = c .before .before .before .before .before .before .before .before .before .before .before .before .before .before .before .before .args in
-    done-end (a .self) (c .before .before .before .before .before .before .before .before .before .before .before .before .before .before .before .before .pre) (a .price) (a .rate) (a .lines .now) (sym (c .before .before .before .before .before .before .before .before .before .before .before .before .before .before .close-answer .ensures) ∙ c .before .before .before .before .before .before .before .before .before .before .before .before .before .if1 .left) _ (sym (c .before .before .before .before .before .before .before .before .before .before .next-after .ensures) ∙ c .before .before .before .before .before .before .before .before .next .given .1) _ _ _ (c .before .before .before .close .ensures)
+returns-3 c = let a = c .before .before .before .before .before .before .before .before .before .before .before .before .before .before .before .args in
+    done-end (a .self) (c .before .before .before .before .before .before .before .before .before .before .before .before .before .before .before .pre) (a .price) (a .rate) (a .lines .now) (sym (c .before .before .before .before .before .before .before .before .before .before .before .before .before .close-answer .ensures) ∙ c .before .before .before .before .before .before .before .before .before .before .before .before .if1 .left) _ (sym (c .before .before .before .before .before .before .before .before .next-after .ensures) ∙ c .before .before .before .before .before .before .next .given .1) _ _ _ (c .before .before .before .close .ensures)
 
 pub close-spec : {M : Type 1} → statement M
 close-spec =

@@ -23,7 +23,7 @@ there c = found-there _ _ _ (sym (c .before .before .fetch .ensures) ∙ c .foun
 takes : (c : tie.Else2) → Takes (c .before .before .before .found .given .0 .0) (c .before .before .before .before .before .before .before .before .before .args .quantity)
 unfolding deliverRefusalsOf
 takes c = record {
-  sound = there-sound _ (c .before .before .before .before .before .before .before .before .before .pre .ledger-valid) _ _ (there (c .before .before .before));
+  sound = there-sound _ (c .before .before .before .before .before .before .before .before .before .pre .ledger) _ _ (there (c .before .before .before));
   enough = ltb-false _ _ (passed 15 _ _ (sym (c .before .deliver-answer .ensures) ∙ c .if2 .left) refl .0);
 }
 
@@ -54,11 +54,11 @@ returns-3 : tie.Need-returns-3
 unfolding deliver
 returns-3 c = (found-refused _ _ _ (deliverRefused _) refl (pass 2 _ (sym (c .before .before .before .before .before .before .before .before .is-outside .ensures) ∙ c .before .before .before .before .before .before .before .if1 .left) ∙ all-passed) _ _ _ (sym (c .before .before .before .before .before .fetch .ensures) ∙ c .before .before .before .found .given .1) (sym (c .before .deliver-answer .ensures)) (c .if2 .taken), c .before .before .before .before .before .before .before .before .before .pre)
 
-deliver-requires : tie.Need-deliver-requires
-deliver-requires c κs = takes c
+move-to-requires : tie.Need-move-to-requires
+move-to-requires c κs = takes c
 
 replace-requires : tie.Need-replace-requires
-replace-requires c κs = omega (arith, ltb-true (c .before .before .before .before .before .before .before .before .before .before .args .obligation) (c .before .before .before .before .before .before .before .before .before .before .args .self .ledger .count) (there (c .before .before .before .before) .below), c .before .before .before .before .before .before .before .before .before .before .pre .ledger-valid .few)
+replace-requires c κs = omega (arith, ltb-true (c .before .before .before .before .before .before .before .before .before .before .args .obligation) (c .before .before .before .before .before .before .before .before .before .before .args .self .ledger .count) (there (c .before .before .before .before) .below), c .before .before .before .before .before .before .before .before .before .before .pre .ledger .few)
 
 cash-for-requires : tie.Need-cash-for-requires
 cash-for-requires c κs = takes (c .before .before)
@@ -68,7 +68,7 @@ unfolding deliver
 returns-4 c = let a = c .before .before .before .before .before .before .before .before .before .before .before .before .args in let o = c .before .before .before .before .before .before .found .given .0 .0 in
     answered (λ (r : Delivered). r .book)
     ((λ i. record { answer = 0; cash = c .cash-for .ensures i; book = withLedger (c .before .replace .ensures i) (a .self) })
-    ∙ (λ i. record { answer = 0; cash = cashOf o (a .quantity); book = withLedger (withObligation (a .obligation) (c .before .before .deliver .ensures i) (a .self .ledger)) (a .self) })
+    ∙ (λ i. record { answer = 0; cash = cashOf o (a .quantity); book = withLedger (withObligation (a .obligation) (c .before .before .move-to .ensures i) (a .self .ledger)) (a .self) })
     ∙ found-done _ _ (deliverDone (a .self) (a .obligation) (a .quantity)) (deliverRefused _) refl (pass 2 _ (sym (c .before .before .before .before .before .before .before .before .before .before .before .is-outside .ensures) ∙ c .before .before .before .before .before .before .before .before .before .before .if1 .left) ∙ all-passed) _ o (sym (c .before .before .before .before .before .before .before .before .fetch .ensures) ∙ c .before .before .before .before .before .before .found .given .1) (sym (c .before .before .before .before .deliver-answer .ensures) ∙ c .before .before .before .if2 .left))
     (deliver-valid _ (c .before .before .before .before .before .before .before .before .before .before .before .before .pre) (a .obligation) (a .quantity))
 
@@ -84,7 +84,7 @@ deliver-spec =
     returns-2
     deliver-answer-requires
     returns-3
-    deliver-requires
+    move-to-requires
     replace-requires
     cash-for-requires
     returns-4)

@@ -1,11 +1,10 @@
 -- `month` meets its contract.
-use mathlib.Core.Bool.{false}
 use mathlib.Core.Path.{refl, sym, ap, subst, _∙_}
 use borrow.Author.Needs.{needs}
 use Rattle.book.proofs.Paid.{accounts-bounded, paid-valid}
-use Rattle.book.specs.Month.{month}
+use Rattle.book.specs.Month.{paidDay, month}
 use Rattle.book.specs.Instructing.{doneRefused}
-use Rattle.book.specs.Book.{Valid}
+use Rattle.book.specs.Book.{withDay, Valid}
 use Rattle.book.specs.declared.Book.{Book}
 use Rattle.refusals.proofs.Refusals.{done-by, refused-with}
 use Rattle.ledger.specs.declared.Ledger.{Ledger}
@@ -13,7 +12,7 @@ use Rattle.book.proofs.Book.month.Statement.{statement}
 use Rattle.book.proofs.Book.month.Tie as tie
 
 settle-month-requires : tie.Need-settle-month-requires
-settle-month-requires c κs = let v = c .before .before .before .before .before .pre in (accounts-bounded (c .before .before .before .before .before .args .self) v, v .ledger-valid .accounts-even)
+settle-month-requires c κs = let v = c .before .before .before .before .before .pre in (accounts-bounded (c .before .before .before .before .before .args .self) v, v .ledger .accounts .even)
 
 same-length : tie.Need-same-length
 same-length c = search needs
@@ -31,10 +30,10 @@ same-length-2 c = search needs
 
 returns-2 : tie.Need-returns-2
 unfolding month
-returns-2 c = let e = c .before .before .before .before .settle-month .ensures in let b = c .before .before .before .before .before .before .before .before .before .before .args .self in
-    let after : Ledger → Book = λ l. record { closed = b .closed; terms = b .terms; today = b .today; «close_since» = false; legs = b .legs; ledger = l } in (
-      ap (λ (l : Ledger). record { answer = 0; book = after l }) (c .clear .ensures) ∙ done-by _ _ (doneRefused b) (sym (e .0) ∙ c .before .if1 .left),
-      (e .1 .0, (subst (λ (l : Ledger). Valid (after l)) (sym (c .clear .ensures)) (paid-valid b (c .before .before .before .before .before .before .before .before .before .before .pre)), refl)),
+returns-2 c = let e = c .before .before .before .before .before .settle-month .ensures in let b = c .before .before .before .before .before .before .before .before .before .before .before .args .self in
+    let after : Ledger → Book = λ l. withDay (paidDay (b .day)) l b in (
+      ap (λ (l : Ledger). record { answer = 0; book = after l }) (c .before .clear .ensures) ∙ done-by _ _ (doneRefused b) (sym (e .0) ∙ c .before .before .if1 .left),
+      (e .1 .0, (subst (λ (l : Ledger). Valid (after l)) (sym (c .before .clear .ensures)) (paid-valid b (c .before .before .before .before .before .before .before .before .before .before .before .pre)), refl)),
     )
 
 pub month-spec : {M : Type 1} → statement M

@@ -67,21 +67,21 @@ is-waiting-requires c κs = search needs
 
 returns-3 : tie.Need-returns-3
 unfolding withdraw withdrawRefusals
-returns-3 c = (refused-as _ _ _ _ 13 (by-fetch _ _ _ (sym (c .before .before .before .before .before .fetch .ensures) ∙ c .before .before .before .found .given .1) ∙ pass 1 _ (le-ltb _ _ (c .before .before .before .before .before .before .before .if1 .left)) ∙ stop 13 _ (rw (← c .before .is-waiting .ensures, c .if2 .left))) (λ z. absurd (omega arith)), c .before .before .before .before .before .before .before .before .pre)
+returns-3 c = (refused-as _ _ _ _ 13 (by-fetch _ _ _ (sym (c .before .before .before .before .before .fetch .ensures) ∙ c .before .before .before .found .given .1) ∙ pass 1 _ (le-ltb _ _ (c .before .before .before .before .before .before .before .if1 .left)) ∙ stop 13 _ (rw (← c .before .is-waiting .ensures, c .if2 .taken))) (λ z. absurd (omega arith)), c .before .before .before .before .before .before .before .before .pre)
 
 returns-4 : tie.Need-returns-4
 unfolding withdraw withdrawRefusals
-returns-4 c = (refused-as _ _ _ _ 14 (by-fetch _ _ _ (sym (c .before .before .before .before .before .before .before .fetch .ensures) ∙ c .before .before .before .before .before .found .given .1) ∙ pass 1 _ (le-ltb _ _ (c .before .before .before .before .before .before .before .before .before .if1 .left)) ∙ pass 13 _ (rw (← c .before .before .before .is-waiting .ensures, c .before .before .if2 .taken)) ∙ stop 14 _ (rw (ne-eqb _ _ (c .if3 .taken)))) (λ z. absurd (omega arith)), c .before .before .before .before .before .before .before .before .before .before .pre)
+returns-4 c = (refused-as _ _ _ _ 14 (by-fetch _ _ _ (sym (c .before .before .before .before .before .before .before .fetch .ensures) ∙ c .before .before .before .before .before .found .given .1) ∙ pass 1 _ (le-ltb _ _ (c .before .before .before .before .before .before .before .before .before .if1 .left)) ∙ pass 13 _ (rw (← c .before .before .before .is-waiting .ensures, c .before .before .if2 .left)) ∙ stop 14 _ (rw (ne-eqb _ _ (c .if3 .taken)))) (λ z. absurd (omega arith)), c .before .before .before .before .before .before .before .before .before .before .pre)
 
 set-state-requires : tie.Need-set-state-requires
-set-state-requires c κs = let t = there (c .before .before .before .before .before) in omega (arith, ltb-true (c .before .before .before .before .before .before .before .before .before .before .args .leg) (c .before .before .before .before .before .before .before .before .before .before .args .self .legs .count) (t .below), c .before .before .before .before .before .before .before .before .before .before .pre .legs-valid .few)
+set-state-requires c κs = let t = there (c .before .before .before .before .before) in omega (arith, ltb-true (c .before .before .before .before .before .before .before .before .before .before .args .leg) (c .before .before .before .before .before .before .before .before .before .before .args .self .legs .count) (t .below), c .before .before .before .before .before .before .before .before .before .before .pre .legs .few)
 
 returns-5 : tie.Need-returns-5
 unfolding withdraw withdrawRefusals
 returns-5 c = let a = c .before .before .before .before .before .before .before .before .before .before .before .args in
     answered (λ (r : Done). r .book)
     (ap (done-with (a .self)) (c .set-state .ensures)
-    ∙ done-as (a .self) (a .leg) (a .member) _ _ (sym (c .before .before .before .before .before .before .before .before .fetch .ensures) ∙ c .before .before .before .before .before .before .found .given .1) (pass 1 _ (le-ltb _ _ (c .before .before .before .before .before .before .before .before .before .before .if1 .left)) ∙ pass 13 _ (rw (← c .before .before .before .before .is-waiting .ensures, c .before .before .before .if2 .taken)) ∙ pass 14 _ (rw (eq-eqb _ _ (c .before .if3 .left))) ∙ all-passed))
+    ∙ done-as (a .self) (a .leg) (a .member) _ _ (sym (c .before .before .before .before .before .before .before .before .fetch .ensures) ∙ c .before .before .before .before .before .before .found .given .1) (pass 1 _ (le-ltb _ _ (c .before .before .before .before .before .before .before .before .before .before .if1 .left)) ∙ pass 13 _ (rw (← c .before .before .before .before .is-waiting .ensures, c .before .before .before .if2 .left)) ∙ pass 14 _ (rw (eq-eqb _ _ (c .before .if3 .left))) ∙ all-passed))
     (withdraw-valid _ (c .before .before .before .before .before .before .before .before .before .before .before .pre) (a .leg) (a .member))
 
 pub withdraw-spec : {M : Type 1} → statement M

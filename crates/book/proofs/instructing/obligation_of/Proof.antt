@@ -18,7 +18,7 @@ new-requires c κs = search needs
 
 returns : tie.Need-returns
 unfolding obligationOf
-returns c = let a = c .before .before .before .before .args in c .new .ensures ∙ ap₂ (λ (d r : Leg). newObligation (d .member) (r .member) (a .new .quantity) (d .amount) (a .new .day)) (c .before .before .before .delivering .ensures) (c .before .before .receiving .ensures)
+returns c = let a = c .before .before .before .before .args in c .new .ensures ∙ ap₂ (λ (d r : Leg). newObligation (record { seller = d .member; buyer = r .member; quantity = a .new .quantity; amount = d .amount; day = a .new .day })) (c .before .before .before .delivering .ensures) (c .before .before .receiving .ensures)
 
 pub obligation-of-spec : {M : Type 1} → statement M
 obligation-of-spec =

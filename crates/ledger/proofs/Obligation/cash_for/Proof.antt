@@ -9,21 +9,21 @@ use Rattle.ledger.proofs.Keeping.{settled-most}
 use Rattle.ledger.proofs.Obligation.cash_for.Statement.{statement}
 use Rattle.ledger.proofs.Obligation.cash_for.Tie as tie
 
-within : (c : tie.After-settled-so-far) → c .settled-so-far .result + c .before .args .quantity ≤ c .before .args .self .quantity
+within : (c : tie.After-settled-so-far) → c .settled-so-far .result + c .before .args .quantity ≤ c .before .args .self .deal .quantity
 within c = omega (arith, c .settled-so-far .ensures, settled-most (c .before .args .self) (c .before .pre .sound), c .before .pre .enough)
 
 settled-so-far-requires : tie.Need-settled-so-far-requires
 settled-so-far-requires c κs = search needs
 
 add-cash-for : tie.Need-add-cash-for
-add-cash-for c = record { fits = omega (arith, within c, c .before .pre .sound .quantity-most) }
+add-cash-for c = record { fits = omega (arith, within c, c .before .pre .sound .deal .quantity-most) }
 
 cash-for-requires : tie.Need-cash-for-requires
-cash-for-requires c κs = (c .before .pre .sound .amount-most, c .before .pre .sound .quantity-some, c .before .pre .sound .quantity-most, omega arith, within c)
+cash-for-requires c κs = (c .before .pre .sound .deal .amount-most, c .before .pre .sound .deal .quantity-some, c .before .pre .sound .deal .quantity-most, omega arith, within c)
 
 returns : tie.Need-returns
 unfolding cashOf
-returns c = let a = c .before .before .args in c .cash-for .ensures ∙ ap (λ (s : ℕ). cash (a .self .amount) (a .self .quantity) s (s + a .quantity)) (c .before .settled-so-far .ensures)
+returns c = let a = c .before .before .args in c .cash-for .ensures ∙ ap (λ (s : ℕ). cash (a .self .deal .amount) (a .self .deal .quantity) s (s + a .quantity)) (c .before .settled-so-far .ensures)
 
 pub cash-for-spec : {M : Type 1} → statement M
 cash-for-spec = tie.close (tie.spec settled-so-far-requires add-cash-for cash-for-requires returns)

@@ -12,11 +12,11 @@ both-wish-requires c κs = search needs
 
 returns : tie.Need-returns
 unfolding movedByWish
-returns c = rw (← c .before .before .before .with-wish .ensures, ← c .before .both-wish .ensures, c .if1 .taken)
+returns c = rw (← c .before .before .with-wish .ensures, ← c .before .both-wish .ensures, c .if1 .taken)
 
 returns-2 : tie.Need-returns-2
 unfolding movedByWish
-returns-2 c = rw (← c .before .before .before .with-wish .ensures, ← c .before .both-wish .ensures, c .if1 .left)
+returns-2 c = rw (← c .before .before .with-wish .ensures, ← c .before .both-wish .ensures, c .if1 .left)
 
 pub moved-by-wish-spec : {M : Type 1} → statement M
 moved-by-wish-spec = tie.close (tie.spec with-wish-requires both-wish-requires returns returns-2)

@@ -2,13 +2,14 @@
 use native.Mathlib.Omega.{arith}
 use mathlib.Core.Path.{refl}
 use Rattle.ledger.specs.Obligations.{settled}
-use Rattle.ledger.proofs.Keeping.{parts-whole}
+use Rattle.ledger.specs.Parts.{allParts}
+use Rattle.basics.specs.Lists.{total}
 use Rattle.ledger.proofs.Obligation.settled_so_far.Statement.{statement}
 use Rattle.ledger.proofs.Obligation.settled_so_far.Tie as tie
 
 add-result : tie.Need-add-result
-unfolding settled
-add-result c = record { fits = omega (arith, parts-whole (c .before .before .args .self) (c .before .before .pre), c .before .before .pre .quantity-most) }
+unfolding settled allParts total
+add-result c = record { fits = omega (arith, c .before .pre .whole, c .before .pre .deal .quantity-most) }
 
 returns : tie.Need-returns
 unfolding settled

@@ -1,7 +1,7 @@
 -- `wish` meets its contract.
 use borrow.Author.Needs.{needs}
 use Rattle.ledger.specs.Obligations.{wishing}
-use Rattle.ledger.proofs.Keeping.{with-wish-sound}
+use Rattle.ledger.proofs.Keeping.{with-wish-sound, takes-all}
 use Rattle.ledger.proofs.Obligation.wish.Statement.{statement}
 use Rattle.ledger.proofs.Obligation.wish.Tie as tie
 
@@ -11,12 +11,13 @@ with-wish-requires c κs = search needs
 both-wish-requires : tie.Need-both-wish-requires
 both-wish-requires c κs = search needs
 
-cancel-requires : tie.Need-cancel-requires
-cancel-requires c κs = rw (c .before .before .with-wish .ensures) (with-wish-sound (c .before .before .before .args .self) (c .before .before .before .args .member) (c .before .before .before .pre))
+move-to-requires : tie.Need-move-to-requires
+move-to-requires c κs = let a = c .before .before .before .args in
+    rw (c .before .before .with-wish .ensures) (takes-all _ (with-wish-sound (a .self) (a .member) (c .before .before .before .pre)))
 
 returns : tie.Need-returns
 unfolding wishing
-returns c = rw (← c .before .before .before .with-wish .ensures, ← c .before .before .both-wish .ensures, c .before .if1 .taken) (c .cancel .ensures)
+returns c = rw (← c .before .before .before .with-wish .ensures, ← c .before .before .both-wish .ensures, c .before .if1 .taken) (c .move-to .ensures)
 
 returns-2 : tie.Need-returns-2
 unfolding wishing
@@ -24,4 +25,4 @@ returns-2 c = rw (← c .before .before .with-wish .ensures, ← c .before .both
 
 pub wish-spec : {M : Type 1} → statement M
 wish-spec =
-    tie.close (tie.spec with-wish-requires both-wish-requires cancel-requires returns returns-2)
+    tie.close (tie.spec with-wish-requires both-wish-requires move-to-requires returns returns-2)

@@ -6,11 +6,11 @@ use Rattle.ledger.proofs.Obligation.with_wish.Tie as tie
 
 returns : tie.Need-returns
 unfolding withWish
-returns c = rw (eq-eqb _ _ (c .if1 .taken))
+returns c = rw (eq-eqb _ _ (c .before .if1 .taken))
 
 returns-2 : tie.Need-returns-2
 unfolding withWish
-returns-2 c = rw (ne-eqb _ _ (c .if1 .left))
+returns-2 c = rw (ne-eqb _ _ (c .before .if1 .left))
 
 pub with-wish-spec : {M : Type 1} → statement M
 with-wish-spec = tie.close (tie.spec returns returns-2)

@@ -1,0 +1,58 @@
+// Close: the end of the day.
+use crate::Book;
+use crate::BookDay;
+use crate::Closed;
+use calendar::NextDay;
+use closing::DayEnd;
+ghost use mathlib.Core.Path.{_≡_};
+ghost use lib.ListN.{length};
+ghost use Rattle.book.specs.Book.{Valid};
+ghost use Rattle.book.specs.Close.{close, closeWords};
+
+impl Book {
+    // Charges, notices, buys in and compensates; then the offers are dropped and today is the next clearing day.
+    pub fn close(mut self, price: u64, rate: u64, lines: &mut [u64]) -> Closed
+        requires { ⌜ Valid self ⌝ }
+        ensures { λ r. ⌜ r ≡ close self price rate (length (now (lines .entry))) ⌝ }
+        ensures { λ r. ⌜ now (lines .exit) ≡ closeWords self price rate (now (lines .entry)) ⌝ }
+        ensures { λ r. ⌜ Valid (r .book) ⌝ }
+    {
+        let number = refusals::close_answer(price, rate, lines.len());
+        if number != 0 {
+            return Closed {
+                answer: number,
+                count: 0,
+                book: self,
+            };
+        }
+        let setup = self.setup;
+        let closed_days = setup.closed_days;
+        let today = self.day.today;
+        let NextDay::At(next) = closed_days.next_after(today) else {
+            return Closed {
+                answer: 20,
+                count: 0,
+                book: self,
+            };
+        };
+        let end = DayEnd {
+            setup: setup,
+            today: today,
+            price: price,
+            rate: rate,
+        };
+        let after = BookDay {
+            today: next,
+            close_since: true,
+        };
+        let done = closing::close(self.ledger, end, lines);
+        let ledger = done.ledger;
+        self.ledger = ledger;
+        self.day = after;
+        Closed {
+            answer: 0,
+            count: done.count,
+            book: self,
+        }
+    }
+}
