@@ -7,11 +7,12 @@ use mathlib.Core.List.{List, [], _++_}
 use lib.ListN.{length, getD, take, drop, length-append, length-take}
 use Rattle.writing.proofs.Digits.{digits-most, signed-most}
 use Rattle.writing.proofs.Writing.{spaced-most, line-most, labelled-most}
-use Rattle.answers.specs.Text.{numbersText, balanceText, sixText, linesText, keptText, paidText}
+use Rattle.answers.specs.Text.{mostNumbered, numbersText, balanceText, sixText, linesText, keptText, paidText}
+use Rattle.answers.specs.Told.{mostShown}
 use Rattle.answers.specs.declared.Answer.{Answer}
 
--- up to seven numbers
-pub numbers-most : (a : Answer) → a .count ≤ 7 → length (numbersText a) ≤ 148
+-- as many numbers as an answer may show
+pub numbers-most : (a : Answer) → a .count ≤ mostShown → length (numbersText a) ≤ mostNumbered
 unfolding numbersText
 numbers-most a h =
     omega (arith, line-most (take (a .count) (a .numbers)), length-take (a .count) (a .numbers))

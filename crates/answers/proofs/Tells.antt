@@ -1,79 +1,76 @@
 -- Which answers can be written, and how much room they need.
-use Prim.Native.Nat.{ℕ, _*_, _≤_}
+use Prim.Native.Nat.{ℕ, _+_, _*_, _≤_, _<_}
+use native.Mathlib.Numerals.{add-one}
 use native.Mathlib.Omega.{arith}
-use mathlib.Core.Path.{_≡_, refl, sym, subst}
-use mathlib.Core.List.{List}
+use mathlib.Core.Path.{_≡_, refl, sym, subst, ap, _∙_}
+use mathlib.Core.List.{List, [], _∷_, _++_}
 use lib.IntN.{ℤ}
-use lib.ListN.{length, take, drop, length-append}
-use Rattle.writing.specs.Answers.{Wrote}
+use lib.ListN.{length, getD, set, take, drop, replicate, length-append}
+use lib.Seq.{sets, length-sets, length-take-le, take-suc}
+use Rattle.basics.proofs.Stores.{sets-append, sets-front}
+use Rattle.writing.specs.Answers.{Wrote, answerOf}
 use Rattle.writing.proofs.Writing.{no-call-most}
 use Rattle.answers.specs.Text.{mostLent, mostAnswer, Tellable, answerText, textIn}
-use Rattle.answers.specs.Text.{keptOf, closedText}
-use Rattle.answers.specs.Told.{nothing, noCall, numbersTold, statusTold, balanceTold, closedTold, paidTold}
+use Rattle.answers.specs.Text.{keptOf, numbersText, closedText}
+use Rattle.answers.specs.Told.{mostShown, nothing, noCall, numbersTold, balanceTold, closedTold, paidTold}
 use Rattle.answers.specs.declared.Form.{Form}
-use Rattle.answers.specs.declared.Form.the-variants.{Nothing, NoCall, Numbers, Balance, Closed, Paid}
 use Rattle.answers.specs.declared.Answer.{Answer}
 use Rattle.answers.proofs.Lengths.{numbers-most, balance-most, lines-most, kept-most, paid-most}
 
--- an answer without lent words can be written
-unlent-tells : (a : Answer) (words : List ℕ) → a .count ≤ 7 → length (a .numbers) ≡ 7 → a .lent ≡ 0 → a .lines ≡ 0 → Tellable a words
-unlent-tells a words few whole none no-lines = record {
-  few = few;
-  whole = whole;
-  lends = omega (arith, none);
-  within = omega (arith, none);
-  lines = omega (arith, no-lines);
-}
+-- there are as many places for numbers as an answer may show
+pub places : (shown : List ℕ) → length (sets (replicate mostShown 0) 0 shown) ≡ mostShown
+places shown = length-sets (replicate mostShown 0) 0 shown
+
+-- one more number in its place
+pub one-more-shown : (places shown : List ℕ) (i : ℕ) → i < length shown
+    → set (sets places 0 (take i shown)) i (getD shown i 0) ≡ sets places 0 (take (i + 1) shown)
+one-more-shown places shown i h =
+    let front = take i shown in
+    let at : 0 + length front ≡ i = omega (arith, length-take-le i shown (omega arith)) in
+    let more : take (i + 1) shown ≡ front ++ getD shown i 0 ∷ [] = rw (add-one i, take-suc shown i 0 h) in
+    sym (ap (sets places 0) more
+    ∙ sets-append places 0 front (getD shown i 0 ∷ [])
+    ∙ ap (λ (k : ℕ). set (sets places 0 front) k (getD shown i 0)) at)
 
 -- the answer to a comment can be written
 pub nothing-tells : (words : List ℕ) → Tellable nothing words
 unfolding nothing
-nothing-tells words = unlent-tells nothing words (omega arith) refl refl refl
+nothing-tells words = record { few = omega arith; whole = refl; lends = omega arith; within = omega arith; lines = omega arith }
 
 -- so can the answer to a line that is no call
 pub no-call-tells : (words : List ℕ) → Tellable noCall words
 unfolding noCall
-no-call-tells words = unlent-tells noCall words (omega arith) refl refl refl
+no-call-tells words = record { few = omega arith; whole = refl; lends = omega arith; within = omega arith; lines = omega arith }
 
 -- so can an answer number with results
-pub numbers-tells : (count answer second third : ℕ) (words : List ℕ) → count ≤ 7
-    → Tellable (numbersTold count answer second third) words
+pub numbers-tells : (shown words : List ℕ) → length shown ≤ mostShown → Tellable (numbersTold shown) words
 unfolding numbersTold
-numbers-tells count answer second third words h = unlent-tells (numbersTold count answer second third) words h refl refl refl
-
--- so can seven numbers
-pub status-tells : (seven words : List ℕ) → length seven ≡ 7 → Tellable (statusTold seven) words
-unfolding statusTold
-status-tells seven words h = unlent-tells (statusTold seven) words (omega arith) h refl refl
+numbers-tells shown words h =
+    record { few = h; whole = places shown; lends = omega arith; within = omega arith; lines = omega arith }
 
 -- so can an answer number with signed cents
 pub balance-tells : (answer : ℕ) (cents : ℤ) (words : List ℕ) → Tellable (balanceTold answer cents) words
 unfolding balanceTold
-balance-tells answer cents words = unlent-tells (balanceTold answer cents) words (omega arith) refl refl refl
+balance-tells answer cents words =
+    record { few = omega arith; whole = refl; lends = omega arith; within = omega arith; lines = omega arith }
 
 -- so can the answer to a Close whose lines stand within the words that were lent
 pub closed-tells : (answer lines lent fill : ℕ) (words : List ℕ)
     → lent ≤ mostLent → lent ≤ length words → 6 * lines ≤ lent → Tellable (closedTold answer lines lent fill) words
 unfolding closedTold
-closed-tells answer lines lent fill words m w l = record {
-  few = omega arith;
-  whole = refl;
-  lends = m;
-  within = w;
-  lines = l;
-}
+closed-tells answer lines lent fill words m w l = record { few = omega arith; whole = refl; lends = m; within = w; lines = l }
 
 -- so can the answer to a Month whose places stand within the words that were lent
 pub paid-tells : (answer lent : ℕ) (words : List ℕ) → lent ≤ mostLent → lent ≤ length words
     → Tellable (paidTold answer lent) words
 unfolding paidTold
-paid-tells answer lent words m w = record {
-  few = omega arith;
-  whole = refl;
-  lends = m;
-  within = w;
-  lines = omega arith;
-}
+paid-tells answer lent words m w = record { few = omega arith; whole = refl; lends = m; within = w; lines = omega arith }
+
+-- the text of an answer number with results has exactly these numbers
+pub numbers-shown : (shown words : List ℕ) (line : ℕ) → length shown ≤ mostShown
+    → answerText (numbersTold shown) line words ≡ answerOf shown
+unfolding answerText textIn numbersText numbersTold
+numbers-shown shown words line h = ap answerOf (sets-front (replicate mostShown 0) shown h)
 
 module _ (a : Answer) (line : ℕ) (words : List ℕ) (t : Tellable a words) where
   -- the answer to a Close fits its room
@@ -91,12 +88,12 @@ module _ (a : Answer) (line : ℕ) (words : List ℕ) (t : Tellable a words) whe
   -- so does an answer in each form
   text-most : (f : Form) → length (textIn f a line words) ≤ mostAnswer
   unfolding textIn
-  text-most Nothing = omega arith
-  text-most NoCall = omega (arith, no-call-most line)
-  text-most Numbers = omega (arith, numbers-most a (t .few))
-  text-most Balance = omega (arith, balance-most a)
-  text-most Closed = closed-most
-  text-most Paid = omega (arith, paid-most a words)
+  text-most Form.Nothing = omega arith
+  text-most Form.NoCall = omega (arith, no-call-most line)
+  text-most Form.Numbers = omega (arith, numbers-most a (t .few))
+  text-most Form.Balance = omega (arith, balance-most a)
+  text-most Form.Closed = closed-most
+  text-most Form.Paid = omega (arith, paid-most a words)
 
   -- every answer that can be written fits its room
   pub answer-most : length (answerText a line words) ≤ mostAnswer

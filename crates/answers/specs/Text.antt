@@ -9,8 +9,8 @@ use Rattle.writing.specs.Digits.{digitsOf, signedOf}
 use Rattle.writing.specs.Words.{space, spaced}
 use Rattle.writing.specs.Answers.{lineFeed, answerOf, labelled, noCallOf}
 use Rattle.answers.specs.declared.Form.{Form}
-use Rattle.answers.specs.declared.Form.the-variants.{Nothing, NoCall, Numbers, Balance, Closed, Paid}
 use Rattle.answers.specs.declared.Answer.{Answer}
+use Rattle.answers.specs.Told.{mostShown}
 
 -- the most words that are lent to a call: 4,096
 abbrev pub mostLent : ℕ
@@ -20,11 +20,15 @@ mostLent = 4_096
 abbrev pub mostAnswer : ℕ
 mostAnswer = 22 * mostLent + 100
 
--- An answer can be written: it shows at most seven numbers, at most 4,096 words were lent, and its lines stand within
+-- the most bytes of a line of numbers: 21 for each, and a line feed
+abbrev pub mostNumbered : ℕ
+mostNumbered = 21 * mostShown + 1
+
+-- An answer can be written: it shows at most as many numbers as there may be, at most 4,096 words were lent, and its lines stand within
 -- these words.
 pub record Tellable (a : Answer) (words : List ℕ) : Type 0 where
-  pub few : a .count ≤ 7
-  pub whole : length (a .numbers) ≡ 7
+  pub few : a .count ≤ mostShown
+  pub whole : length (a .numbers) ≡ mostShown
   pub lends : a .lent ≤ mostLent
   pub within : a .lent ≤ length words
   pub lines : 6 * a .lines ≤ a .lent
@@ -69,12 +73,12 @@ paidText a words =
 
 -- the text of an answer in each form
 unfoldable pub textIn : Form → Answer → ℕ → List ℕ → List ℕ
-textIn Nothing a line words = []
-textIn NoCall a line words = noCallOf line
-textIn Numbers a line words = numbersText a
-textIn Balance a line words = balanceText a
-textIn Closed a line words = closedText a words
-textIn Paid a line words = paidText a words
+textIn Form.Nothing a line words = []
+textIn Form.NoCall a line words = noCallOf line
+textIn Form.Numbers a line words = numbersText a
+textIn Form.Balance a line words = balanceText a
+textIn Form.Closed a line words = closedText a words
+textIn Form.Paid a line words = paidText a words
 
 -- the text of the answer to the line with this number
 unfoldable pub answerText : Answer → ℕ → List ℕ → List ℕ

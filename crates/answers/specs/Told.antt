@@ -1,68 +1,53 @@
 -- The answers to the lines of a journal, each in its form (docs/JOURNAL.md, Lines out).
 use Prim.Native.Nat.{ℕ}
 use mathlib.Core.List.{List, [], _∷_}
-use lib.ListN.{replicate}
+use lib.ListN.{length, replicate}
+use lib.Seq.{sets}
 use lib.IntN.{ℤ, pos}
-use Rattle.answers.specs.declared.Form.the-variants.{Nothing, NoCall, Numbers, Balance, Closed, Paid}
+use Rattle.answers.specs.declared.Form.{Form}
 use Rattle.answers.specs.declared.Answer.{Answer}
 
--- no answer, as to a comment
-unfoldable pub nothing : Answer
-nothing = record { form = Nothing; numbers = replicate 7 0; count = 0; cents = pos 0; lines = 0; lent = 0; fill = 0 }
+-- the most numbers that an answer shows: those of a Status
+abbrev pub mostShown : ℕ
+mostShown = 7
 
--- the answer to a line that is no call
-unfoldable pub noCall : Answer
-noCall = record { form = NoCall; numbers = replicate 7 0; count = 0; cents = pos 0; lines = 0; lent = 0; fill = 0 }
-
--- an answer number and up to two results; the first `count` of these three numbers are shown
-unfoldable pub numbersTold : ℕ → ℕ → ℕ → ℕ → Answer
-numbersTold count answer second third = record {
-  form = Numbers;
-  numbers = answer ∷ second ∷ third ∷ 0 ∷ 0 ∷ 0 ∷ 0 ∷ [];
-  count = count;
-  cents = pos 0;
-  lines = 0;
-  lent = 0;
-  fill = 0;
-}
-
--- the answer to a Status: an answer number and six results
-unfoldable pub statusTold : List ℕ → Answer
-statusTold seven = record { form = Numbers; numbers = seven; count = 7; cents = pos 0; lines = 0; lent = 0; fill = 0 }
-
--- the answer to an Account: an answer number and signed cents
-unfoldable pub balanceTold : ℕ → ℤ → Answer
-balanceTold answer cents = record {
-  form = Balance;
-  numbers = answer ∷ 0 ∷ 0 ∷ 0 ∷ 0 ∷ 0 ∷ 0 ∷ [];
-  count = 1;
+-- An answer by its parts. The numbers that it shows stand in the first of its places, and the others hold 0.
+abbrev toldWith : Form → List ℕ → ℤ → ℕ → ℕ → ℕ → Answer
+toldWith form shown cents lines lent fill = record {
+  form = form;
+  numbers = sets (replicate mostShown 0) 0 shown;
+  count = length shown;
   cents = cents;
-  lines = 0;
-  lent = 0;
-  fill = 0;
-}
-
--- the answer to a Close: an answer number, how many lines there are, how many words were lent, and with what value they
--- were filled
-unfoldable pub closedTold : ℕ → ℕ → ℕ → ℕ → Answer
-closedTold answer lines lent fill = record {
-  form = Closed;
-  numbers = answer ∷ lines ∷ 0 ∷ 0 ∷ 0 ∷ 0 ∷ 0 ∷ [];
-  count = 2;
-  cents = pos 0;
   lines = lines;
   lent = lent;
   fill = fill;
 }
 
+-- an answer in a form that shows only numbers
+abbrev pub told : Form → List ℕ → Answer
+told form shown = toldWith form shown (pos 0) 0 0 0
+
+-- no answer, as to a comment
+unfoldable pub nothing : Answer
+nothing = told Form.Nothing []
+
+-- the answer to a line that is no call
+unfoldable pub noCall : Answer
+noCall = told Form.NoCall []
+
+-- an answer number and results
+unfoldable pub numbersTold : List ℕ → Answer
+numbersTold shown = told Form.Numbers shown
+
+-- the answer to an Account: an answer number and signed cents
+unfoldable pub balanceTold : ℕ → ℤ → Answer
+balanceTold answer cents = toldWith Form.Balance (answer ∷ []) cents 0 0 0
+
+-- the answer to a Close: an answer number, how many lines there are, how many words were lent, and with what value they
+-- were filled
+unfoldable pub closedTold : ℕ → ℕ → ℕ → ℕ → Answer
+closedTold answer lines lent fill = toldWith Form.Closed (answer ∷ lines ∷ []) (pos 0) lines lent fill
+
 -- the answer to a Month: an answer number, and how many places for payouts were lent
 unfoldable pub paidTold : ℕ → ℕ → Answer
-paidTold answer lent = record {
-  form = Paid;
-  numbers = answer ∷ 0 ∷ 0 ∷ 0 ∷ 0 ∷ 0 ∷ 0 ∷ [];
-  count = 1;
-  cents = pos 0;
-  lines = 0;
-  lent = lent;
-  fill = 0;
-}
+paidTold answer lent = toldWith Form.Paid (answer ∷ []) (pos 0) 0 lent 0

@@ -1,10 +1,12 @@
 // The answers to the lines of a journal, and how each is written as text.
+use writing::LINE_FEED;
+use writing::SPACE;
 ghost use Prim.Native.Nat.{_+_, _*_, _≤_};
 ghost use mathlib.Core.Path.{_≡_};
 ghost use lib.ListN.{length, take, drop};
 ghost use Rattle.writing.specs.Answers.{Wrote};
-ghost use Rattle.answers.specs.Told.{nothing, noCall, numbersTold, statusTold, balanceTold, closedTold, paidTold};
-ghost use Rattle.answers.specs.Text.{mostAnswer, Tellable, numbersText, balanceText, sixText, linesText, keptOf};
+ghost use Rattle.answers.specs.Told.{mostShown, told, nothing, noCall, numbersTold, balanceTold, closedTold, paidTold};
+ghost use Rattle.answers.specs.Text.{mostNumbered, mostAnswer, Tellable, numbersText, balanceText, sixText, linesText, keptOf};
 ghost use Rattle.answers.specs.Text.{keptText, closedText, paidText, answerText};
 
 // What the answer to a line looks like.
@@ -23,12 +25,18 @@ pub enum Form {
     Paid,
 }
 
-// The answer to a line. It has a form, numbers of which the first `count` are shown, and signed cents. For a Close it
-// also says how many lines of six words stand in the words that were lent, how many words were lent, and with what
-// value they were filled. For a Month it says how many words were lent.
+// The most bytes of an answer: 22 for each of the most words that are lent, and 100 more.
+pub const MOST_ANSWER: usize = 90_212;
+
+// The most numbers that an answer shows: those of a Status.
+pub const MOST_SHOWN: usize = 7;
+
+// The answer to a line. It has a form, numbers of which the first `count` are shown, and signed cents. Where words were
+// lent, it also says how many lines of six words stand in them, how many words were lent, and with what value they were
+// filled. For a Month it says how many words were lent.
 pub struct Answer {
     pub form: Form,
-    pub numbers: [u64; 7],
+    pub numbers: [u64; MOST_SHOWN],
     pub count: usize,
     pub cents: i64,
     pub lines: usize,
@@ -37,43 +45,20 @@ pub struct Answer {
 }
 
 impl Answer {
-    // No answer.
-    pub fn nothing() -> Answer
-        ensures { λ r. ⌜ r ≡ nothing ⌝ }
+    // An answer in this form that shows these numbers.
+    fn new(form: Form, shown: &[u64]) -> Answer
+        requires { ⌜ length (now shown) ≤ mostShown ⌝ }
+        ensures { λ r. ⌜ r ≡ told form (now (shown .entry)) ⌝ }
     {
-        Answer {
-            form: Form::Nothing,
-            numbers: [0; 7],
-            count: 0,
-            cents: 0,
-            lines: 0,
-            lent: 0,
-            fill: 0,
+        let mut numbers = [0; MOST_SHOWN];
+        let mut count = 0;
+        while count < shown.len() {
+            numbers[count] = shown[count];
+            count += 1;
         }
-    }
-
-    // The answer to a line that is no call.
-    pub fn no_call() -> Answer
-        ensures { λ r. ⌜ r ≡ noCall ⌝ }
-    {
         Answer {
-            form: Form::NoCall,
-            numbers: [0; 7],
-            count: 0,
-            cents: 0,
-            lines: 0,
-            lent: 0,
-            fill: 0,
-        }
-    }
-
-    // An answer number and up to two results. The first `count` of these three numbers are shown.
-    pub fn numbers(count: usize, answer: u64, second: u64, third: u64) -> Answer
-        ensures { λ r. ⌜ r ≡ numbersTold count answer second third ⌝ }
-    {
-        Answer {
-            form: Form::Numbers,
-            numbers: [answer, second, third, 0, 0, 0, 0],
+            form: form,
+            numbers: numbers,
             count: count,
             cents: 0,
             lines: 0,
@@ -82,70 +67,66 @@ impl Answer {
         }
     }
 
-    // An answer number and six results.
-    pub fn seven(numbers: [u64; 7]) -> Answer
-        ensures { λ r. ⌜ r ≡ statusTold numbers ⌝ }
+    // No answer.
+    pub fn nothing() -> Answer
+        ensures { λ r. ⌜ r ≡ nothing ⌝ }
     {
-        Answer {
-            form: Form::Numbers,
-            numbers: numbers,
-            count: 7,
-            cents: 0,
-            lines: 0,
-            lent: 0,
-            fill: 0,
-        }
+        let none = [0u64; 0];
+        Answer::new(Form::Nothing, &none)
+    }
+
+    // The answer to a line that is no call.
+    pub fn no_call() -> Answer
+        ensures { λ r. ⌜ r ≡ noCall ⌝ }
+    {
+        let none = [0u64; 0];
+        Answer::new(Form::NoCall, &none)
+    }
+
+    // An answer number and results.
+    pub fn numbers(shown: &[u64]) -> Answer
+        requires { ⌜ length (now shown) ≤ mostShown ⌝ }
+        ensures { λ r. ⌜ r ≡ numbersTold (now (shown .entry)) ⌝ }
+    {
+        Answer::new(Form::Numbers, shown)
     }
 
     // An answer number and signed cents.
     pub fn balance(answer: u64, cents: i64) -> Answer
         ensures { λ r. ⌜ r ≡ balanceTold answer cents ⌝ }
     {
-        Answer {
-            form: Form::Balance,
-            numbers: [answer, 0, 0, 0, 0, 0, 0],
-            count: 1,
-            cents: cents,
-            lines: 0,
-            lent: 0,
-            fill: 0,
-        }
+        let shown = [answer];
+        let mut made = Answer::new(Form::Balance, &shown);
+        made.cents = cents;
+        made
     }
 
-    // The answer to a Close: an answer number, how many lines there are, how many words were lent, and with what value
-    // they were filled.
+    // An answer number, how many lines there are, how many words were lent for them, and with what value these were
+    // filled.
     pub fn closed(answer: u64, lines: usize, lent: usize, fill: u64) -> Answer
         ensures { λ r. ⌜ r ≡ closedTold answer lines lent fill ⌝ }
     {
-        Answer {
-            form: Form::Closed,
-            numbers: [answer, lines as u64, 0, 0, 0, 0, 0],
-            count: 2,
-            cents: 0,
-            lines: lines,
-            lent: lent,
-            fill: fill,
-        }
+        let shown = [answer, lines as u64];
+        let mut made = Answer::new(Form::Closed, &shown);
+        made.lines = lines;
+        made.lent = lent;
+        made.fill = fill;
+        made
     }
 
-    // The answer to a Month: an answer number, and how many places for payouts were lent.
+    // An answer number, and how many places for payouts were lent.
     pub fn paid(answer: u64, lent: usize) -> Answer
         ensures { λ r. ⌜ r ≡ paidTold answer lent ⌝ }
     {
-        Answer {
-            form: Form::Paid,
-            numbers: [answer, 0, 0, 0, 0, 0, 0],
-            count: 1,
-            cents: 0,
-            lines: 0,
-            lent: lent,
-            fill: 0,
-        }
+        let shown = [answer];
+        let mut made = Answer::new(Form::Paid, &shown);
+        made.lent = lent;
+        made
     }
 
     // Writes the numbers of an answer, and a line feed.
     fn tell_numbers(self, out: &mut [u8], at: usize) -> usize
-        requires { ⌜ (self .count ≤ 7) × (at + 148 ≤ length (now out)) ⌝ }
+        requires { ⌜ (self .count ≤ mostShown) × (at + mostNumbered ≤ length (now out)) ⌝ }
         ensures { λ r. ⌜ Wrote (numbersText self) (now (out .entry)) at (now (out .exit)) r ⌝ }
     {
         let numbers = self.numbers;
@@ -160,9 +141,9 @@ impl Answer {
     {
         let numbers = self.numbers;
         let number = writing::write_number(out, at, numbers[0]);
-        out[number] = b' ';
+        out[number] = SPACE;
         let end = writing::write_signed(out, number + 1, self.cents);
-        out[end] = b'\n';
+        out[end] = LINE_FEED;
         end + 1
     }
 
@@ -187,7 +168,7 @@ impl Answer {
         let lent = self.lent;
         let number = writing::write_number(out, at, numbers[0]);
         let end = writing::write_further(out, number, &words[..lent]);
-        out[end] = b'\n';
+        out[end] = LINE_FEED;
         end + 1
     }
 
@@ -214,8 +195,8 @@ fn tell_six(words: &[u64], from: usize, out: &mut [u8], at: usize) -> usize
     requires { ⌜ (from + 6 ≤ length (now words)) × (at + 129 ≤ length (now out)) ⌝ }
     ensures { λ r. ⌜ Wrote (sixText (take 6 (drop from (now (words .entry))))) (now (out .entry)) at (now (out .exit)) r ⌝ }
 {
-    out[at] = b' ';
-    out[at + 1] = b' ';
+    out[at] = SPACE;
+    out[at + 1] = SPACE;
     writing::write_answer(out, at + 2, &words[from..from + 6])
 }
 

@@ -1,11 +1,12 @@
 // The input, line by line. The bytes that were read are taken up to the next line feed, and those of the current line
 // are held in a buffer until the line has ended.
+use writing::LINE_FEED;
 ghost use mathlib.Core.Path.{_≡_};
 ghost use Prim.Native.Nat.{_+_, _≤_, min, _-_};
 ghost use lib.ListN.{length};
 ghost use lib.Seq.{sets};
 ghost use Rattle.basics.specs.Lists.{between};
-ghost use Rattle.lines.specs.Input.{atStart, usedUp, filledTo, droppedFrom, linesOf, oneMore, upToLineFeed, ahead, takenOf};
+ghost use Rattle.lines.specs.Input.{atStart, usedUp, filledTo, droppedFrom, linesOf, oneMore, ahead, takenOf};
 
 // Where the input stands: which bytes were read and not yet taken, and how far the current line has come.
 pub struct Feed {
@@ -31,25 +32,10 @@ pub struct Taken {
 fn one_more(ended: u64) -> u64
     ensures { λ r. ⌜ r ≡ oneMore ended ⌝ }
 {
-    if ended < 18_446_744_073_709_551_615 {
+    if ended < u64::MAX {
         return ended + 1;
     }
     ended
-}
-
-// The place of the next line feed, or the end of the bytes that were read.
-fn line_end(part: &[u8], from: usize, to: usize) -> usize
-    requires { ⌜ (from ≤ to) × (to ≤ length (now part)) ⌝ }
-    ensures { λ r. ⌜ r ≡ from + length (upToLineFeed (between from to (now (part .entry)))) ⌝ }
-{
-    let mut at = from;
-    while at < to {
-        if part[at] == b'\n' {
-            return at;
-        }
-        at += 1;
-    }
-    at
 }
 
 // Adds bytes to the current line, and answers how many bytes of it are held. Bytes that have no place are dropped,
@@ -127,7 +113,7 @@ impl Feed {
         ensures { λ r. ⌜ r ≡ takenOf self (now (part .entry)) (length (now (line .entry))) ⌝ }
         ensures { λ r. ⌜ now (line .exit) ≡ sets (now (line .entry)) (self .held) (ahead self (now (part .entry))) ⌝ }
     {
-        let end = line_end(part, self.from, self.to);
+        let end = writing::place_of(LINE_FEED, part, self.from, self.to);
         let held = hold(line, self.held, part, self.from, end);
         if end < self.to {
             return Taken {

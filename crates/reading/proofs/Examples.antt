@@ -9,10 +9,11 @@ use Rattle.basics.specs.Lists.{upTo}
 use Rattle.writing.specs.Digits.{digitsWithin, digitsOf, signedOf}
 use Rattle.reading.specs.Numbers.{isDigit, onlyDigits, valueFrom, numberOf}
 use Rattle.reading.specs.Words.{furtherWords, wordsOf}
-use Rattle.reading.specs.Calls.{sameWord, namings, found, nameOf, counted, listsOf, listable, shapeRight, withNumber, numbersOf}
+use Rattle.reading.specs.Calls.{sameWord, namings, found, namingOf, counted, listsOf, listable, shapeRight, withNumber, numbersOf}
 use Rattle.reading.specs.Lines.{isComment, callWith, meaningOf}
 use Rattle.reading.specs.Lines.Meaning.{call, no-call}
-use Rattle.reading.specs.declared.Name.the-variants.{Open, Close, Month, Look}
+use Rattle.reading.specs.declared.Name.{Name}
+use Rattle.reading.specs.declared.Shape.{Shape}
 
 -- 007 is 7
 zeros-in-front : numberOf (48 ∷ 48 ∷ 55 ∷ []) ≡ some 7
@@ -40,14 +41,14 @@ unfolding digitsWithin digitsOf signedOf
 negative = refl
 
 -- `look 31` is a call
-a-look : meaningOf (108 ∷ 111 ∷ 111 ∷ 107 ∷ 32 ∷ 51 ∷ 49 ∷ []) ≡ call Look (31 ∷ [])
-unfolding isDigit onlyDigits valueFrom numberOf upTo furtherWords sameWord namings found nameOf counted listsOf
+a-look : meaningOf (108 ∷ 111 ∷ 111 ∷ 107 ∷ 32 ∷ 51 ∷ 49 ∷ []) ≡ call Name.Look (Shape.Plain 1) (31 ∷ [])
+unfolding isDigit onlyDigits valueFrom numberOf upTo furtherWords sameWord namings found namingOf counted listsOf
     listable shapeRight withNumber numbersOf isComment callWith meaningOf
 a-look = refl
 
 -- `look` with two spaces before its number is no call
 two-spaces : meaningOf (108 ∷ 111 ∷ 111 ∷ 107 ∷ 32 ∷ 32 ∷ 51 ∷ []) ≡ no-call
-unfolding isDigit onlyDigits valueFrom numberOf upTo furtherWords sameWord namings found nameOf counted listsOf
+unfolding isDigit onlyDigits valueFrom numberOf upTo furtherWords sameWord namings found namingOf counted listsOf
     listable shapeRight withNumber numbersOf isComment callWith meaningOf
 two-spaces = refl
 
@@ -58,21 +59,21 @@ space-behind = refl
 
 -- a line with a space before its # is no call
 blank-before : meaningOf (32 ∷ 35 ∷ []) ≡ no-call
-unfolding isDigit onlyDigits valueFrom numberOf upTo furtherWords sameWord namings found nameOf counted listsOf
+unfolding isDigit onlyDigits valueFrom numberOf upTo furtherWords sameWord namings found namingOf counted listsOf
     listable shapeRight withNumber numbersOf isComment callWith meaningOf
 blank-before = refl
 
 -- `month 2 5 6 3 9` has two amounts and three places
-a-month : shapeRight Month (2 ∷ 5 ∷ 6 ∷ 3 ∷ 9 ∷ []) ≡ true
+a-month : shapeRight Shape.Amounts (2 ∷ 5 ∷ 6 ∷ 3 ∷ 9 ∷ []) ≡ true
 unfolding counted listsOf listable shapeRight
 a-month = refl
 
 -- `open 7 10 1` is no call, because its one closed day is missing
-day-missing : shapeRight Open (7 ∷ 10 ∷ 1 ∷ []) ≡ false
+day-missing : shapeRight Shape.Days (7 ∷ 10 ∷ 1 ∷ []) ≡ false
 unfolding counted listsOf listable shapeRight
 day-missing = refl
 
 -- `close 1 2 4097 0` is no call, because its list is too long
-list-too-long : shapeRight Close (1 ∷ 2 ∷ 4_097 ∷ 0 ∷ []) ≡ false
+list-too-long : shapeRight (Shape.Lent 2) (1 ∷ 2 ∷ 4_097 ∷ 0 ∷ []) ≡ false
 unfolding counted listsOf listable shapeRight
 list-too-long = refl

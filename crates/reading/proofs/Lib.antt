@@ -4,11 +4,11 @@
 -- call has. Understanding: what a whole line says. Long: lines that are too long for a call. Reading and Collecting:
 -- the loops that read a number, and the numbers of a line.
 pub mod Splitting
-pub mod Spelling
 pub mod Reading
 pub mod Collecting
 pub mod Values
 pub mod Shapes
+pub mod Spelling
 pub mod Understanding
 pub mod Arguments
 pub mod RoundTrips

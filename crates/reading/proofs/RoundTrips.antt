@@ -3,12 +3,12 @@ use Prim.Native.Nat.{ℕ, zero, suc, _+_, _*_, _/_, _%_, _^_, _≤_, _<_}
 use native.Mathlib.Nat.{div-add-mod'}
 use native.Mathlib.Omega.{arith}
 use mathlib.Core.Path.{_≡_, refl, ap, _∙_}
-use mathlib.Core.Bool.{Bool, true, false}
+use mathlib.Core.Bool.{Bool, true, false, _&&_}
 use mathlib.Core.List.{List, [], _∷_, _++_, map, append-nil}
 use mathlib.Core.Option.{some}
-use lib.Dec.{eqb, ltb}
+use lib.Dec.{eqb, ltb, leb}
 use lib.ListN.{length}
-use borrow.Author.Tests.{ne-eqb, lt-ltb, le-ltb, eqb-false, ltb-true}
+use borrow.Author.Tests.{ne-eqb, lt-ltb, le-ltb, ltb-true, leb-true}
 use Rattle.basics.specs.Choice.{pick}
 use Rattle.basics.specs.Lists.{Every, upTo}
 use Rattle.basics.specs.Lists.Every.{nobody, also}
@@ -19,10 +19,12 @@ use Rattle.writing.specs.Words.{space, spaced, joined}
 use Rattle.writing.proofs.Digits.{tenth-below, digits-some}
 use Rattle.reading.specs.Numbers.{isDigit, onlyDigits, valueFrom, valueOf, numberOf}
 use Rattle.reading.specs.Words.{firstWord, furtherWords, wordsOf}
-use Rattle.reading.specs.Calls.{Naming, sameWord, namings, found, nameOf, shapeRight, withNumber, numbersOf}
+use Rattle.reading.specs.Calls.{Naming, namings, namingOf, shapeRight, withNumber, numbersOf}
 use Rattle.reading.specs.Lines.{isComment, mostBytes, callWith, meaningOf}
 use Rattle.reading.specs.Lines.Meaning.{call}
+use Rattle.reading.specs.Found.{onlyLetters}
 use Rattle.reading.proofs.Values.{value-append}
+use Rattle.reading.proofs.Spelling.{Usable, usable-letters, usable-found}
 
 value-last : (v d : ℕ) → valueFrom v (digit d ∷ []) ≡ v * 10 + d
 unfolding valueFrom
@@ -104,17 +106,6 @@ joined-words w ws p (also {x = v} {xs = vs} q qs) =
     rw (first-of w (v ++ spaced vs) p, further-of w (v ++ spaced vs) p)
     (ap (λ (l : List (List ℕ)). w ∷ l) (joined-words v vs q qs))
 
--- a word that is its own first word has no space
-whole-spaceless : (w : List ℕ) → firstWord w ≡ w → Spaceless w
-unfolding upTo
-whole-spaceless [] e = nobody
-whole-spaceless (b ∷ bs) e = by (eqb b space) refl e (whole-spaceless bs)
-  where
-    by : (t : Bool) → eqb b space ≡ t → pick t [] (b ∷ firstWord bs) ≡ b ∷ bs
-        → (firstWord bs ≡ bs → Spaceless bs) → Spaceless (b ∷ bs)
-    by true f g rest = absurd (let z : _≡_ {A = ℕ} 0 1 = cc in omega arith)
-    by false f g rest = also (eqb-false b space f) (rest (cc))
-
 digit-other : (b : ℕ) → isDigit b ≡ true → b ≡ space → ⊥
 unfolding isDigit
 digit-other b e f = never (rw f at e)
@@ -141,27 +132,25 @@ unfolding numbersOf withNumber
 texts-read ns nobody = refl
 texts-read ns (also {x = n} {xs = ms} p ps) = rw (digits-read n p, texts-read ms ps)
 
--- an entry of the table of names can be used: its word names its call, is a single word, and does not begin a comment
-abbrev Usable : Naming → Type 0
-Usable x =
-    (nameOf (x .word) ≡ some (x .name)) × (firstWord (x .word) ≡ x .word)
-    × ((rest : List ℕ) → isComment (x .word ++ rest) ≡ false)
+-- a word of letters is a single word, and does not begin a comment
+letter-above : (b : ℕ) → (leb 97 b && leb b 122) ≡ true → 97 ≤ b
+letter-above b e = leb-true 97 b (and-true (leb 97 b) (leb b 122) e .0)
 
--- every entry of the table can be used; in particular no word of it stands for two calls
-pub usable : Every Usable namings
-unfolding sameWord namings found nameOf upTo isComment
-usable =
-    also (refl, refl, λ r. refl)
-    (also (refl, refl, λ r. refl)
-    (also (refl, refl, λ r. refl)
-    (also (refl, refl, λ r. refl)
-    (also (refl, refl, λ r. refl)
-    (also (refl, refl, λ r. refl)
-    (also (refl, refl, λ r. refl)
-    (also (refl, refl, λ r. refl)
-    (also (refl, refl, λ r. refl)
-    (also (refl, refl, λ r. refl)
-    (also (refl, refl, λ r. refl) (also (refl, refl, λ r. refl) nobody)))))))))))
+above-other : (b : ℕ) → 97 ≤ b → b ≡ space → ⊥
+above-other b h e = omega arith
+
+letters-spaceless : (w : List ℕ) → onlyLetters w ≡ true → Spaceless w
+unfolding onlyLetters
+letters-spaceless [] e = nobody
+letters-spaceless (b ∷ bs) e =
+    let both = and-true (leb 97 b && leb b 122) (onlyLetters bs) e in
+    also (above-other b (letter-above b (both .0))) (letters-spaceless bs (both .1))
+
+letters-begin : (w rest : List ℕ) → onlyLetters w ≡ true → 0 < length w → isComment (w ++ rest) ≡ false
+unfolding onlyLetters isComment
+letters-begin [] rest e h = absurd (omega arith)
+letters-begin (b ∷ bs) rest e h =
+    ne-eqb b 35 (λ f. omega (arith, letter-above b (and-true (leb 97 b && leb b 122) (onlyLetters bs) e .0)))
 
 -- a call as it is written: its name and its arguments, with one space between two words
 abbrev pub written : Naming → List ℕ → List ℕ
@@ -170,19 +159,20 @@ written x ns = joined (x .word ∷ map digitsOf ns)
 -- A call that is written is read as that call, for every list of arguments that has its shape.
 pub WrittenReads : Naming → Type 0
 WrittenReads x =
-    (ns : List ℕ) → Numbers ns → shapeRight (x .name) ns ≡ true → length (written x ns) ≤ mostBytes
-    → meaningOf (written x ns) ≡ call (x .name) ns
+    (ns : List ℕ) → Numbers ns → shapeRight (x .shape) ns ≡ true → length (written x ns) ≤ mostBytes
+    → meaningOf (written x ns) ≡ call (x .name) (x .shape) ns
 
-written-reads : (x : Naming) → Usable x → WrittenReads x
+written-reads : (x : Naming) → (namingOf (x .word) ≡ some x) × Usable x → WrittenReads x
 unfolding WrittenReads meaningOf callWith
 written-reads x u ns small right short =
+    let letters = usable-letters (u .1) in
     let words : firstWord (written x ns) ∷ furtherWords (written x ns) ≡ x .word ∷ map digitsOf ns =
     unfold wordsOf in
-    joined-words (x .word) (map digitsOf ns) (whole-spaceless (x .word) (u .1)) (texts-spaceless ns) in
+    joined-words (x .word) (map digitsOf ns) (letters-spaceless (x .word) letters) (texts-spaceless ns) in
     let first : firstWord (written x ns) ≡ x .word = cc in
     let further : furtherWords (written x ns) ≡ map digitsOf ns = cc in
-    let starts : isComment (written x ns) ≡ false = unfold joined in u .2 (spaced (map digitsOf ns)) in
+    let starts : isComment (written x ns) ≡ false = unfold joined in letters-begin (x .word) (spaced (map digitsOf ns)) letters (u .1 .some) in
     rw (starts, le-ltb mostBytes (length (written x ns)) short, first, further, u .0, texts-read ns small, right)
 
 pub calls-read : Every WrittenReads namings
-calls-read = every-map written-reads usable
+calls-read = every-map written-reads usable-found

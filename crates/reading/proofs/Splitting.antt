@@ -1,15 +1,15 @@
 -- How a line is split into words.
-use Prim.Native.Nat.{ℕ, suc, _+_, _≤_}
+use Prim.Native.Nat.{ℕ, suc, _+_, _-_, _≤_}
 use native.Mathlib.Nat.{suc-add}
 use native.Mathlib.Omega.{arith}
 use mathlib.Core.Path.{_≡_, refl, sym, ap, _∙_}
 use mathlib.Core.Bool.{Bool, true, false}
 use mathlib.Core.List.{List, [], _∷_}
 use lib.Dec.{eqb}
-use lib.ListN.{length, drop, length-drop}
-use lib.Seq.{drop-drop}
+use lib.ListN.{length, take, drop, length-drop}
+use lib.Seq.{drop-drop, take-all}
 use Rattle.basics.specs.Choice.{pick}
-use Rattle.basics.specs.Lists.{upTo}
+use Rattle.basics.specs.Lists.{between, upTo}
 use Rattle.basics.proofs.Fronts.{up-most}
 use Rattle.writing.specs.Words.{space}
 use Rattle.reading.specs.Words.{firstWord, furtherWords, wordsOf}
@@ -41,6 +41,14 @@ further-some (b ∷ bs) h = by (eqb b space) h (further-some bs)
     by false e rest =
         rest (λ z. e (omega arith))
         ∙ ap (λ (n : ℕ). wordsOf (drop n (b ∷ bs))) (sym (suc-add (length (firstWord bs)) 1))
+
+-- the first space of a line is where its first word ends
+pub whole-word : (line : List ℕ) (end : ℕ) → end ≡ 0 + length (upTo space (between 0 (length line) line))
+    → end ≡ length (firstWord line)
+whole-word line end e =
+    let size : length line - 0 ≡ length line = omega arith in
+    let all : between 0 (length line) line ≡ line = ap (λ (k : ℕ). take k line) size ∙ take-all (length line) line (omega arith) in
+    omega (arith, e, ap (λ (bs : List ℕ). length (upTo space bs)) all)
 
 module _ (line : List ℕ) (at : ℕ) (within : at ≤ length line) where
   -- a word ends within the line

@@ -1,7 +1,7 @@
 -- What a line says, at each place where reading it ends.
 use Prim.Native.Nat.{ℕ, _+_, _≤_, _<_}
 use native.Mathlib.Omega.{arith}
-use mathlib.Core.Path.{_≡_, refl, sym, ap, _∙_}
+use mathlib.Core.Path.{_≡_, refl, sym, ap, ap₂, _∙_}
 use mathlib.Core.Bool.{Bool, true, false}
 use mathlib.Core.List.{List, [], _∷_}
 use mathlib.Core.Option.{Option, none, some}
@@ -15,15 +15,17 @@ use Rattle.basics.proofs.Stores.{sets-front}
 use Rattle.writing.specs.Words.{space}
 use Rattle.reading.specs.Numbers.{numberOf}
 use Rattle.reading.specs.Words.{firstWord, furtherWords, wordsOf}
-use Rattle.reading.specs.Calls.{mostNumbers, nameOf, withNumber, numbersOf}
+use Rattle.reading.specs.Calls.{Naming, mostNumbers, namingOf, withNumber, numbersOf}
 use Rattle.reading.specs.Lines.{isComment, mostBytes, callWith, meaningOf, lineOf, ifNumber, numbersAhead, ifNamed, numbersRead, Understood}
 use Rattle.reading.specs.Found.{namedOf, fewOf, shapedAs}
 use Rattle.reading.specs.declared.Name.{Name}
+use Rattle.reading.specs.declared.Shape.{Shape}
 use Rattle.reading.specs.declared.Line.the-variants.{Comment, NoCall}
 use Rattle.reading.specs.declared.Named.the-variants.{As, Nothing}
 use Rattle.reading.specs.declared.Count.the-variants.{All, NotAll}
 use Rattle.reading.proofs.Splitting.{further-none, further-some}
-use Rattle.reading.proofs.Shapes.{shape-most, line-shaped}
+use Rattle.reading.proofs.Shapes.{fixedBy, shape-most, line-shaped}
+use Rattle.reading.proofs.Spelling.{named-usable}
 
 -- an empty line is a comment
 pub empty-comment : (line places : List ℕ) → length line ≡ 0 → Understood line places places Comment
@@ -43,15 +45,22 @@ unfolding isComment
 no-comment [] h e = absurd (h refl)
 no-comment (b ∷ bs) h e = ne-eqb b 35 e
 
-named-as : (name : Name) (o : Option Name) → As name ≡ namedOf o → o ≡ some name
-unfolding namedOf
-named-as name none e = absurd (let z : _≡_ {A = ℕ} 0 1 = cc in omega arith)
-named-as name (some n) e = cc
+-- an entry of the table, by its name and its shape
+record Entry (name : Name) (shape : Shape) (o : Option Naming) : Type 0 where
+  entry : Naming
+  names : entry .name ≡ name
+  shapes : entry .shape ≡ shape
+  found : o ≡ some entry
 
-named-nothing : (o : Option Name) → Nothing ≡ namedOf o → o ≡ none
+named-as : (name : Name) (shape : Shape) (o : Option Naming) → As name shape ≡ namedOf o → Entry name shape o
+unfolding namedOf
+named-as name shape none e = absurd (let z : _≡_ {A = ℕ} 0 1 = cc in omega arith)
+named-as name shape (some x) e = record { entry = x; names = cc; shapes = cc; found = refl }
+
+named-nothing : (o : Option Naming) → Nothing ≡ namedOf o → o ≡ none
 unfolding namedOf
 named-nothing none e = refl
-named-nothing (some n) e = absurd (let z : _≡_ {A = ℕ} 0 1 = cc in omega arith)
+named-nothing (some x) e = absurd (let z : _≡_ {A = ℕ} 0 1 = cc in omega arith)
 
 -- if all numbers were counted, every word is a number and each has a place
 few-some : (places count : ℕ) (o : Option (List ℕ)) → All count ≡ fewOf places o
@@ -110,41 +119,46 @@ pub record Plain (line : List ℕ) : Type 0 where
   pub short : length line ≤ mostBytes
 
 module _ (line : List ℕ) (p : Plain line) where
-  meaning-is : meaningOf line ≡ callWith (nameOf (firstWord line)) (numbersOf (furtherWords line))
+  meaning-is : meaningOf line ≡ callWith (namingOf (firstWord line)) (numbersOf (furtherWords line))
   unfolding meaningOf
   meaning-is = rw (no-comment line (p .filled) (p .other), le-ltb mostBytes (length line) (p .short))
 
-  read-is : numbersRead line ≡ ifNamed (nameOf (firstWord line)) (numbersAhead (furtherWords line))
+  read-is : numbersRead line ≡ ifNamed (namingOf (firstWord line)) (numbersAhead (furtherWords line))
   unfolding numbersRead
   read-is = rw (no-comment line (p .filled) (p .other), le-ltb mostBytes (length line) (p .short))
 
 -- a line whose first word, which ends at a place, names a call
-pub record Headed (line : List ℕ) (end : ℕ) (name : Name) : Type 0 where
+pub record Headed (line : List ℕ) (end : ℕ) (name : Name) (shape : Shape) : Type 0 where
   pub plain : Plain line
   pub ends : end ≡ length (firstWord line)
-  pub names : As name ≡ namedOf (nameOf (take end line))
+  pub names : As name shape ≡ namedOf (namingOf (take end line))
 
 -- a line without a name is no call
 pub unnamed : (line places : List ℕ) (end : ℕ) → Plain line → end ≡ length (firstWord line)
-    → Nothing ≡ namedOf (nameOf (take end line)) → Understood line places places NoCall
+    → Nothing ≡ namedOf (namingOf (take end line)) → Understood line places places NoCall
 unfolding callWith lineOf ifNamed
 unnamed line places end p ends n =
     let first = word-taken line end ends in
-    let no : nameOf (firstWord line) ≡ none = rw first at (named-nothing (nameOf (take end line)) n) in
+    let no : namingOf (firstWord line) ≡ none = rw first at (named-nothing (namingOf (take end line)) n) in
     record { answer = rw (meaning-is line p, no); numbers = rw (read-is line p, no) }
 
-module _ (line places : List ℕ) (end : ℕ) (name : Name) (h : Headed line end name) where
-  named : nameOf (firstWord line) ≡ some name
-  named = rw (word-taken line end (h .ends)) at (named-as name (nameOf (take end line)) (h .names))
+module _ (line places : List ℕ) (end : ℕ) (name : Name) (shape : Shape) (h : Headed line end name shape) where
+  named : Entry name shape (namingOf (firstWord line))
+  named = rw (word-taken line end (h .ends)) at (named-as name shape (namingOf (take end line)) (h .names))
+
+  -- the line is the call of the entry if the numbers have its shape
+  entry-shaped : (ns : List ℕ) → shapedAs name shape ns ≡ lineOf (callWith (some (named .entry)) (some ns))
+  entry-shaped ns =
+      ap₂ (λ (n : Name) (s : Shape). shapedAs n s ns) (sym (named .names)) (sym (named .shapes)) ∙ line-shaped (named .entry) ns
 
   -- a name alone has no numbers
-  pub alone : end ≡ length line → Understood line places places (shapedAs name (take 0 places))
+  pub alone : end ≡ length line → Understood line places places (shapedAs name shape (take 0 places))
   unfolding ifNamed numbersOf numbersAhead
   alone e =
       let words = further-none line (sym (h .ends) ∙ e) in
       record {
-        answer = rw (meaning-is line (h .plain), named, words) (line-shaped name []);
-        numbers = rw (read-is line (h .plain), named, words);
+        answer = rw (meaning-is line (h .plain), named .found, words) (entry-shaped []);
+        numbers = rw (read-is line (h .plain), named .found, words);
       }
 
   -- what is read after the name: the numbers, which stand in their places
@@ -157,12 +171,12 @@ module _ (line places : List ℕ) (end : ℕ) (name : Name) (h : Headed line end
     unfolding words
     words-are = rw (h .ends) (further-some line (λ z. more (h .ends ∙ z)))
 
-    meant : meaningOf line ≡ callWith (some name) (numbersOf words)
-    meant = rw (meaning-is line (h .plain), named, words-are)
+    meant : meaningOf line ≡ callWith (some (named .entry)) (numbersOf words)
+    meant = rw (meaning-is line (h .plain), named .found, words-are)
 
     read : after ≡ sets places 0 (numbersRead line)
     unfolding words ifNamed
-    read = rw (read-is line (h .plain), named, words-are) stands
+    read = rw (read-is line (h .plain), named .found, words-are) stands
 
     -- the line is no call if a word is no number, or if there are more numbers than places
     pub not-all : mostNumbers ≤ length places
@@ -171,13 +185,16 @@ module _ (line places : List ℕ) (end : ℕ) (name : Name) (h : Headed line end
     unfolding words callWith lineOf fewOf
     not-all room few = record { answer = rw meant (by (numbersOf words) few); numbers = read }
       where
+        few-fixed : fixedBy (named .entry .shape) ≤ mostNumbers
+        few-fixed = omega (arith, named-usable (firstWord line) (named .entry) (named .found) .few)
+
         surplus : (ns : List ℕ) (t : Bool) → leb (length ns) (length places) ≡ t
-            → NotAll ≡ pick t (All (length ns)) NotAll → NoCall ≡ lineOf (callWith (some name) (some ns))
+            → NotAll ≡ pick t (All (length ns)) NotAll → NoCall ≡ lineOf (callWith (some (named .entry)) (some ns))
         surplus ns true f g = absurd (let z : _≡_ {A = ℕ} 0 1 = cc in omega arith)
         surplus ns false f g =
-            rw (shape-most name ns (omega (arith, leb-false (length ns) (length places) f)))
+            rw (shape-most (named .entry .shape) ns few-fixed (omega (arith, leb-false (length ns) (length places) f)))
 
-        by : (o : Option (List ℕ)) → NotAll ≡ fewOf (length places) o → NoCall ≡ lineOf (callWith (some name) o)
+        by : (o : Option (List ℕ)) → NotAll ≡ fewOf (length places) o → NoCall ≡ lineOf (callWith (some (named .entry)) o)
         by none f = refl
         by (some ns) f = surplus ns (leb (length ns) (length places)) refl f
 
@@ -200,5 +217,5 @@ module _ (line places : List ℕ) (end : ℕ) (name : Name) (h : Headed line end
           ∙ sets-front places ns (omega (arith, numbers .2, numbers .3))
 
       -- the line is a call if the numbers have its shape
-      pub is-shaped : Understood line places after (shapedAs name (take count after))
-      is-shaped = record { answer = rw (meant, numbers .1, in-front) (line-shaped name (numbers .0)); numbers = read }
+      pub is-shaped : Understood line places after (shapedAs name shape (take count after))
+      is-shaped = record { answer = rw (meant, numbers .1, in-front) (entry-shaped (numbers .0)); numbers = read }

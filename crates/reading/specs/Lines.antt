@@ -10,14 +10,15 @@ use lib.Seq.{sets}
 use Rattle.basics.specs.Choice.{pick}
 use Rattle.reading.specs.Numbers.{numberOf}
 use Rattle.reading.specs.Words.{firstWord, furtherWords}
-use Rattle.reading.specs.Calls.{nameOf, numbersOf, shapeRight}
+use Rattle.reading.specs.Calls.{Naming, namingOf, numbersOf, shapeRight}
 use Rattle.reading.specs.declared.Name.{Name}
+use Rattle.reading.specs.declared.Shape.{Shape}
 use Rattle.reading.specs.declared.Line.{Line}
 use Rattle.reading.specs.declared.Line.the-variants.{Call, Comment, NoCall}
 
 -- what a line of a journal says: it is a call with its arguments, a comment, or no call
 pub data Meaning : Type 0 where
-  call : Name → List ℕ → Meaning
+  call : Name → Shape → List ℕ → Meaning
   comment : Meaning
   no-call : Meaning
 
@@ -32,20 +33,20 @@ mostBytes = 65_536
 
 -- A line is a call if its first word is a name, every word after it is a number, and these numbers have the shape of
 -- the call.
-unfoldable pub callWith : Option Name → Option (List ℕ) → Meaning
+unfoldable pub callWith : Option Naming → Option (List ℕ) → Meaning
 callWith none ns = no-call
-callWith (some name) none = no-call
-callWith (some name) (some ns) = pick (shapeRight name ns) (call name ns) no-call
+callWith (some x) none = no-call
+callWith (some x) (some ns) = pick (shapeRight (x .shape) ns) (call (x .name) (x .shape) ns) no-call
 
 -- What a line says. A call is a name and then its arguments, on a line that is no comment and not too long.
 unfoldable pub meaningOf : List ℕ → Meaning
 meaningOf line =
     pick (isComment line) comment
-    (pick (ltb mostBytes (length line)) no-call (callWith (nameOf (firstWord line)) (numbersOf (furtherWords line))))
+    (pick (ltb mostBytes (length line)) no-call (callWith (namingOf (firstWord line)) (numbersOf (furtherWords line))))
 
 -- what a line is; a call has the number of its arguments
 unfoldable pub lineOf : Meaning → Line
-lineOf (call name ns) = Call name (length ns)
+lineOf (call name shape ns) = Call name shape (length ns)
 lineOf comment = Comment
 lineOf no-call = NoCall
 
@@ -60,15 +61,15 @@ numbersAhead [] = []
 numbersAhead (w ∷ ws) = ifNumber (numberOf w) (numbersAhead ws)
 
 -- no numbers are read if no call is named
-unfoldable pub ifNamed : Option Name → List ℕ → List ℕ
+unfoldable pub ifNamed : Option Naming → List ℕ → List ℕ
 ifNamed none ns = []
-ifNamed (some name) ns = ns
+ifNamed (some x) ns = ns
 
 -- the numbers that are read from a line, whether or not it turns out to be a call
 unfoldable pub numbersRead : List ℕ → List ℕ
 numbersRead line =
     pick (isComment line) []
-    (pick (ltb mostBytes (length line)) [] (ifNamed (nameOf (firstWord line)) (numbersAhead (furtherWords line))))
+    (pick (ltb mostBytes (length line)) [] (ifNamed (namingOf (firstWord line)) (numbersAhead (furtherWords line))))
 
 -- The answer is what the line says. The numbers that were read from it stand in the first places, as many as there are
 -- places for, and every other place is as it was. If the line is a call, these numbers are its arguments.

@@ -1,14 +1,15 @@
 // Reads a line of a journal: it is a call with its arguments, a comment, or no call.
+use writing::SPACE;
 ghost use mathlib.Core.Path.{_≡_};
 ghost use Prim.Native.Nat.{_≤_};
 ghost use lib.Dec.{eqb};
 ghost use lib.ListN.{length, take, drop};
 ghost use lib.Seq.{sets};
 ghost use Rattle.basics.specs.Choice.{pick};
-ghost use Rattle.reading.specs.Words.{firstWord, wordsOf};
-ghost use Rattle.reading.specs.Calls.{sameWord, namings, found, mostNumbers, nameOf, numbersOf, shapeRight};
+ghost use Rattle.reading.specs.Words.{wordsOf};
+ghost use Rattle.reading.specs.Calls.{mostNumbers, namingOf, numbersOf, shapeRight};
 ghost use Rattle.reading.specs.Lines.{numbersAhead, Understood};
-ghost use Rattle.reading.specs.Found.{wordAt, namedOf, fewOf, shapedAs};
+ghost use Rattle.reading.specs.Found.{wordAt, codeOf, namedOf, fewOf, shapedAs};
 
 // The names of the calls, and of the one other line that is answered by numbers.
 pub enum Name {
@@ -27,9 +28,21 @@ pub enum Name {
     Rules,
 }
 
-// What a line is. A call has a name and the number of its arguments.
+// Which numbers a call has.
+pub enum Shape {
+    // This many numbers.
+    Plain(usize),
+    // Three numbers, of which the third says how many days follow, and these days.
+    Days,
+    // This many numbers, and then the length and the fill of a list that is lent.
+    Lent(usize),
+    // How many amounts follow, these amounts, and then the length and the fill of a list that is lent.
+    Amounts,
+}
+
+// What a line is. A call has a name, a shape and the number of its arguments.
 pub enum Line {
-    Call(Name, usize),
+    Call(Name, Shape, usize),
     Comment,
     NoCall,
 }
@@ -40,9 +53,9 @@ enum Word {
     NoNumber,
 }
 
-// The call that a word names, if it names one.
+// The call that a word names, if it names one, and its shape.
 enum Named {
-    As(Name),
+    As(Name, Shape),
     Nothing,
 }
 
@@ -52,93 +65,53 @@ enum Count {
     NotAll,
 }
 
-const SPACE: u8 = b' ';
+// The most letters of a name: as many as a number of 64 bits has bytes.
+const MOST_LETTERS: usize = 8;
 
 const MOST_LISTED: u64 = 4_096;
 
 const MOST_BYTES: usize = 65_536;
 
-const LARGEST: u64 = 18_446_744_073_709_551_615;
-
-// The end of the first word of a line.
-fn word_end(line: &[u8]) -> usize
-    ensures { λ r. ⌜ r ≡ length (firstWord (now (line .entry))) ⌝ }
+// A word of small letters as one number, in which the first letter is the lowest byte. It is 0 for a word with any other
+// byte, and for one that is longer than a name.
+fn code_of(word: &[u8]) -> u64
+    ensures { λ r. ⌜ r ≡ codeOf (now (word .entry)) ⌝ }
 {
-    let mut at = 0;
-    while at < line.len() {
-        if line[at] == SPACE {
-            return at;
+    if MOST_LETTERS < word.len() {
+        return 0;
+    }
+    let mut code: u64 = 0;
+    let mut left = word.len();
+    while 0 < left {
+        left -= 1;
+        let letter = word[left];
+        if letter < b'a' || b'z' < letter {
+            return 0;
         }
-        at += 1;
+        code = code * 256 + letter as u64;
     }
-    at
+    code
 }
 
-// Whether two words are the same.
-fn is_same(a: &[u8], b: &[u8]) -> bool
-    ensures { λ r. ⌜ r ≡ sameWord (now (a .entry)) (now (b .entry)) ⌝ }
-{
-    if a.len() != b.len() {
-        return false;
-    }
-    let mut i = 0;
-    while i < a.len() {
-        if a[i] != b[i] {
-            return false;
-        }
-        i += 1;
-    }
-    true
-}
-
-// The call that a word names, if it is Close or one of the names after it.
-fn name_from_close(word: &[u8]) -> Named
-    ensures { λ r. ⌜ r ≡ namedOf (found (now (word .entry)) (drop 6 namings)) ⌝ }
-{
-    if is_same(word, b"close") {
-        return Named::As(Name::Close);
-    }
-    if is_same(word, b"month") {
-        return Named::As(Name::Month);
-    }
-    if is_same(word, b"status") {
-        return Named::As(Name::Status);
-    }
-    if is_same(word, b"account") {
-        return Named::As(Name::Account);
-    }
-    if is_same(word, b"look") {
-        return Named::As(Name::Look);
-    }
-    if is_same(word, b"rules") {
-        return Named::As(Name::Rules);
-    }
-    Named::Nothing
-}
-
-// The call that a word names.
+// The call that a word names. Each constant is the name's letters from the last to the first, so 0x6e65706f is `open`.
 fn name_of(word: &[u8]) -> Named
-    ensures { λ r. ⌜ r ≡ namedOf (nameOf (now (word .entry))) ⌝ }
+    ensures { λ r. ⌜ r ≡ namedOf (namingOf (now (word .entry))) ⌝ }
 {
-    if is_same(word, b"open") {
-        return Named::As(Name::Open);
+    match code_of(word) {
+        0x6e65706f => Named::As(Name::Open, Shape::Days),
+        0x7265746e65 => Named::As(Name::Enter, Shape::Plain(6)),
+        0x7761726468746977 => Named::As(Name::Withdraw, Shape::Plain(2)),
+        0x6c65636e6163 => Named::As(Name::Cancel, Shape::Plain(2)),
+        0x726576696c6564 => Named::As(Name::Deliver, Shape::Plain(2)),
+        0x726566666f => Named::As(Name::Offer, Shape::Plain(4)),
+        0x65736f6c63 => Named::As(Name::Close, Shape::Lent(2)),
+        0x68746e6f6d => Named::As(Name::Month, Shape::Amounts),
+        0x737574617473 => Named::As(Name::Status, Shape::Plain(1)),
+        0x746e756f636361 => Named::As(Name::Account, Shape::Plain(1)),
+        0x6b6f6f6c => Named::As(Name::Look, Shape::Plain(1)),
+        0x73656c7572 => Named::As(Name::Rules, Shape::Plain(0)),
+        _ => Named::Nothing,
     }
-    if is_same(word, b"enter") {
-        return Named::As(Name::Enter);
-    }
-    if is_same(word, b"withdraw") {
-        return Named::As(Name::Withdraw);
-    }
-    if is_same(word, b"cancel") {
-        return Named::As(Name::Cancel);
-    }
-    if is_same(word, b"deliver") {
-        return Named::As(Name::Deliver);
-    }
-    if is_same(word, b"offer") {
-        return Named::As(Name::Offer);
-    }
-    name_from_close(word)
 }
 
 // The word that ends at a place, if every byte of it was a digit. It is a number unless it is empty.
@@ -171,7 +144,7 @@ fn read_word(line: &[u8], from: usize) -> Word
             return Word::NoNumber;
         }
         let digit = (byte - b'0') as u64;
-        if (LARGEST - digit) / 10 < value {
+        if (u64::MAX - digit) / 10 < value {
             return Word::NoNumber;
         }
         value = value * 10 + digit;
@@ -203,79 +176,64 @@ fn read_numbers(line: &[u8], from: usize, numbers: &mut [u64]) -> Count
     Count::NotAll
 }
 
-// Whether an open has as many numbers as the third of them says, and no list that is too long.
-fn is_open(numbers: &[u64], count: usize) -> bool
+// Whether there are as many days as the third number says, and no list that is too long.
+fn has_days(numbers: &[u64], count: usize) -> bool
     requires { ⌜ count ≤ length (now numbers) ⌝ }
-    ensures { λ r. ⌜ r ≡ shapeRight Name.Open (take count (now (numbers .entry))) ⌝ }
+    ensures { λ r. ⌜ r ≡ shapeRight Shape.Days (take count (now (numbers .entry))) ⌝ }
 {
     if count < 3 {
         return false;
     }
-    let listed = numbers[2];
-    if MOST_LISTED < listed {
-        return false;
-    }
-    count == 3 + listed as usize
+    let days = numbers[2];
+    days <= MOST_LISTED && count - 3 == days as usize
 }
 
-// Whether a close has four numbers, and the list whose length is the third is not too long.
-fn is_close(numbers: &[u64], count: usize) -> bool
+// Whether there are this many numbers before the two for the list that is lent, and the list is not too long.
+fn has_lent(before: usize, numbers: &[u64], count: usize) -> bool
     requires { ⌜ count ≤ length (now numbers) ⌝ }
-    ensures { λ r. ⌜ r ≡ shapeRight Name.Close (take count (now (numbers .entry))) ⌝ }
+    ensures { λ r. ⌜ r ≡ shapeRight (Shape.Lent before) (take count (now (numbers .entry))) ⌝ }
 {
-    if count != 4 {
+    if count < 2 {
         return false;
     }
-    numbers[2] <= MOST_LISTED
+    before == count - 2 && numbers[before] <= MOST_LISTED
 }
 
-// Whether a month has as many numbers as the first of them says, and no list that is too long.
-fn is_month(numbers: &[u64], count: usize) -> bool
+// Whether there are as many amounts as the first number says, and no list that is too long.
+fn has_amounts(numbers: &[u64], count: usize) -> bool
     requires { ⌜ count ≤ length (now numbers) ⌝ }
-    ensures { λ r. ⌜ r ≡ shapeRight Name.Month (take count (now (numbers .entry))) ⌝ }
+    ensures { λ r. ⌜ r ≡ shapeRight Shape.Amounts (take count (now (numbers .entry))) ⌝ }
 {
     if count < 3 {
         return false;
     }
-    let listed = numbers[0];
-    if MOST_LISTED < listed {
+    let amounts = numbers[0];
+    if MOST_LISTED < amounts {
         return false;
     }
-    let collected = listed as usize;
-    if count != 3 + collected {
-        return false;
-    }
-    numbers[collected + 1] <= MOST_LISTED
+    count - 3 == amounts as usize && numbers[count - 2] <= MOST_LISTED
 }
 
-// Whether the first `count` numbers have the shape of the call with this name.
-fn has_shape(name: Name, numbers: &[u64], count: usize) -> bool
+// Whether the first `count` numbers have this shape.
+fn has_shape(shape: Shape, numbers: &[u64], count: usize) -> bool
     requires { ⌜ count ≤ length (now numbers) ⌝ }
-    ensures { λ r. ⌜ r ≡ shapeRight name (take count (now (numbers .entry))) ⌝ }
+    ensures { λ r. ⌜ r ≡ shapeRight shape (take count (now (numbers .entry))) ⌝ }
 {
-    match name {
-        Name::Open => is_open(numbers, count),
-        Name::Enter => count == 6,
-        Name::Withdraw => count == 2,
-        Name::Cancel => count == 2,
-        Name::Deliver => count == 2,
-        Name::Offer => count == 4,
-        Name::Close => is_close(numbers, count),
-        Name::Month => is_month(numbers, count),
-        Name::Status => count == 1,
-        Name::Account => count == 1,
-        Name::Look => count == 1,
-        Name::Rules => count == 0,
+    match shape {
+        Shape::Plain(size) => count == size,
+        Shape::Days => has_days(numbers, count),
+        Shape::Lent(before) => has_lent(before, numbers, count),
+        Shape::Amounts => has_amounts(numbers, count),
     }
 }
 
 // The call with this name and the first `count` numbers, if they have its shape.
-fn shaped(name: Name, numbers: &[u64], count: usize) -> Line
+fn shaped(name: Name, shape: Shape, numbers: &[u64], count: usize) -> Line
     requires { ⌜ count ≤ length (now numbers) ⌝ }
-    ensures { λ r. ⌜ r ≡ shapedAs name (take count (now (numbers .entry))) ⌝ }
+    ensures { λ r. ⌜ r ≡ shapedAs name shape (take count (now (numbers .entry))) ⌝ }
 {
-    if has_shape(name, numbers, count) {
-        return Line::Call(name, count);
+    if has_shape(shape, numbers, count) {
+        return Line::Call(name, shape, count);
     }
     Line::NoCall
 }
@@ -295,15 +253,15 @@ pub fn read_line(line: &[u8], numbers: &mut [u64]) -> Line
     if MOST_BYTES < line.len() {
         return Line::NoCall;
     }
-    let end = word_end(line);
-    let Named::As(name) = name_of(&line[..end]) else {
+    let end = writing::place_of(SPACE, line, 0, line.len());
+    let Named::As(name, shape) = name_of(&line[..end]) else {
         return Line::NoCall;
     };
     if end == line.len() {
-        return shaped(name, numbers, 0);
+        return shaped(name, shape, numbers, 0);
     }
     let Count::All(count) = read_numbers(line, end + 1, numbers) else {
         return Line::NoCall;
     };
-    shaped(name, numbers, count)
+    shaped(name, shape, numbers, count)
 }

@@ -1,15 +1,34 @@
-// Writes numbers, labels and line feeds as text at a place of the output. Each function answers the place after what it
-// wrote.
+// Writes numbers, labels and line feeds as text at a place of the output. Each function that writes answers the place
+// after what it wrote. The bytes between words and between lines stand here, and so does the search for them.
+ghost use mathlib.Core.Path.{_≡_};
 ghost use mathlib.Core.List.{_∷_, map};
 ghost use Prim.Native.Nat.{_+_, _*_, _≤_, _<_};
 ghost use lib.ListN.{length};
+ghost use Rattle.basics.specs.Lists.{between, upTo};
 ghost use Rattle.writing.specs.Digits.{digitsOf, signedOf};
 ghost use Rattle.writing.specs.Words.{space, spaced};
 ghost use Rattle.writing.specs.Answers.{Wrote, textOf, answerOf, labelled, noCallOf, endOf};
 
-const SPACE: u8 = b' ';
+// The byte between two words.
+pub const SPACE: u8 = b' ';
 
-const LINE_FEED: u8 = b'\n';
+// The byte that ends a line.
+pub const LINE_FEED: u8 = b'\n';
+
+// The first place from one place up to another that holds this byte, or the other place if none does.
+pub fn place_of(byte: u8, bytes: &[u8], from: usize, to: usize) -> usize
+    requires { ⌜ (from ≤ to) × (to ≤ length (now bytes)) ⌝ }
+    ensures { λ r. ⌜ r ≡ from + length (upTo byte (between from to (now (bytes .entry)))) ⌝ }
+{
+    let mut at = from;
+    while at < to {
+        if bytes[at] == byte {
+            return at;
+        }
+        at += 1;
+    }
+    at
+}
 
 // Writes bytes at a place.
 pub fn write_bytes(out: &mut [u8], at: usize, bytes: &[u8]) -> usize

@@ -2,8 +2,11 @@
 use Prim.Native.Nat.{ℕ}
 use native.Mathlib.Omega.{arith}
 use mathlib.Core.List.{List}
-use mathlib.Core.Path.{sym, _∙_}
+use mathlib.Core.Path.{_≡_, sym, _∙_}
+use lib.ListN.{length}
 use borrow.Author.Needs.{needs}
+use Rattle.reading.specs.Words.{firstWord}
+use Rattle.reading.proofs.Splitting.{whole-word}
 use Rattle.reading.proofs.Understanding.{Plain, Headed, empty-comment, hash-comment, too-long, word-length, word-behind, unnamed, alone, not-all, count-within, is-shaped}
 use Rattle.reading.proofs.read_line.Statement.{statement}
 use Rattle.reading.proofs.read_line.Tie as tie
@@ -16,11 +19,15 @@ plain c = record { filled = c .before .before .before .if1 .left; other = c .bef
 abbrev line : tie.After-known-told → List ℕ
 line c = c .before .before .before .before .before .before .before .before .before .before .before .before .args .line .now
 
+-- the first word ends at the first space
+ends : (c : tie.After-place-of) → c .place-of .result ≡ length (firstWord (c .before .before .before .before .before .before .before .args .line .now))
+ends c = whole-word (c .before .before .before .before .before .before .before .args .line .now) _ (c .place-of .ensures)
+
 -- after the name was found the line is known to begin with it
-headed : (c : tie.After-known-told) → Headed (line c) (c .before .before .before .before .before .word-end .result) (c .before .name .given .0 .0)
+headed : (c : tie.After-known-told) → Headed (line c) (c .before .before .before .before .before .place-of .result) (c .before .name .given .0 .0) (c .before .name .given .0 .1 .0)
 headed c = record {
   plain = plain (c .before .before .before .before .before .before);
-  ends = c .before .before .before .before .before .word-end .ensures;
+  ends = ends (c .before .before .before .before .before);
   names = sym (c .before .name .given .1) ∙ c .before .before .before .name-of .ensures;
 }
 
@@ -36,13 +43,13 @@ returns-2 c = hash-comment _ _ (c .before .before .if1 .left) (c .if2 .taken)
 returns-3 : tie.Need-returns-3
 returns-3 c = too-long _ _ (c .before .before .before .if1 .left) (c .before .if2 .left) (c .if3 .taken)
 
-word-end-requires : tie.Need-word-end-requires
-word-end-requires c κs = search needs
+place-of-requires : tie.Need-place-of-requires
+place-of-requires c κs = search needs
 
 slice-aggregate-name-of : tie.Need-slice-aggregate-name-of
 slice-aggregate-name-of c =
     let end = c .before in
-    word-length (end .before .before .before .before .before .before .before .args .line .now) _ (end .word-end .ensures)
+    word-length (end .before .before .before .before .before .before .before .args .line .now) _ (ends end)
 
 name-of-requires : tie.Need-name-of-requires
 name-of-requires c κs = search needs
@@ -56,7 +63,7 @@ enum-told c = search needs
 returns-4 : tie.Need-returns-4
 returns-4 c =
     let end = c .before .before .before .before in
-    unnamed _ _ _ (plain (end .before)) (end .word-end .ensures)
+    unnamed _ _ _ (plain (end .before)) (ends end)
     (sym (c .enum-told .given .1) ∙ c .before .before .name-of .ensures)
 
 shaped-requires : tie.Need-shaped-requires
@@ -66,20 +73,20 @@ same-length : tie.Need-same-length
 same-length c = search needs
 
 returns-5 : tie.Need-returns-5
-returns-5 c = rw (c .shaped .ensures) (alone _ _ _ _ (headed (c .before .before .before)) (c .before .before .if4 .taken))
+returns-5 c = rw (c .shaped .ensures) (alone _ _ _ _ _ (headed (c .before .before .before)) (c .before .before .if4 .taken))
 
 add-read-numbers : tie.Need-add-read-numbers
 add-read-numbers c =
     let name = c .before in
     let start = name .before .before .before .before .before .before .before .before .before .before .before .before in
-    let within = word-behind (start .args .line .now) _ (name .before .before .before .before .before .word-end .ensures) (c .if4 .left) in
+    let within = word-behind (start .args .line .now) _ (ends (name .before .before .before .before .before)) (c .if4 .left) in
     omega arith
 
 read-numbers-requires : tie.Need-read-numbers-requires
 read-numbers-requires c κs =
     let name = c .before .before in
     let start = name .before .before .before .before .before .before .before .before .before .before .before .before in
-    word-behind (start .args .line .now) _ (name .before .before .before .before .before .word-end .ensures) (c .before .if4 .left)
+    word-behind (start .args .line .now) _ (ends (name .before .before .before .before .before)) (c .before .if4 .left)
 
 enum-known-count : tie.Need-enum-known-count
 enum-known-count c = search needs
@@ -94,7 +101,7 @@ returns-6 : tie.Need-returns-6
 returns-6 c =
     let name = c .before .before .before .before .before .before .before in
     let numbers = c .before .before .before .before .read-numbers in
-    not-all _ _ _ _ (headed name) (c .before .before .before .before .before .before .if4 .left) _ (numbers .ensures .1)
+    not-all _ _ _ _ _ (headed name) (c .before .before .before .before .before .before .if4 .left) _ (numbers .ensures .1)
     (name .before .before .before .before .before .before .before .before .before .before .before .before .pre)
     (sym (c .enum-told2 .given .1) ∙ numbers .ensures .0)
 
@@ -103,7 +110,7 @@ shaped-requires-2 c κs =
     let name = c .before .before .before .before .before .before .before .before .before in
     let start = name .before .before .before .before .before .before .before .before .before .before .before .before in
     let numbers = c .before .before .before .before .before .before .read-numbers in
-    count-within _ (start .args .numbers .now) _ _ (headed name)
+    count-within _ (start .args .numbers .now) _ _ _ (headed name)
     (c .before .before .before .before .before .before .before .before .if4 .left)
     _
     (numbers .ensures .1)
@@ -118,7 +125,7 @@ returns-7 c =
     let name = c .before .before .before .before .before .before .before .before .before .before in
     let numbers = c .before .before .before .before .before .before .before .read-numbers in
     rw (c .shaped2 .ensures)
-    (is-shaped _ _ _ _ (headed name) (c .before .before .before .before .before .before .before .before .before .if4 .left) _
+    (is-shaped _ _ _ _ _ (headed name) (c .before .before .before .before .before .before .before .before .before .if4 .left) _
     (numbers .ensures .1)
     _
     (sym (c .before .before .before .count .given .1) ∙ numbers .ensures .0))
@@ -131,7 +138,7 @@ read-line-spec =
     shared-slice-read-if2
     returns-2
     returns-3
-    word-end-requires
+    place-of-requires
     slice-aggregate-name-of
     name-of-requires
     enum-known-name

@@ -15,7 +15,7 @@ unfolding shapedAs
 returns c =
     let start = c .before .before .before in
     rw (sym (c .before .has-shape .ensures) ∙ c .if1 .taken)
-    (ap (Call (start .args .name)) (sym (length-take-le _ _ (start .pre))))
+    (ap (Call (start .args .name) (start .args .shape)) (sym (length-take-le _ _ (start .pre))))
 
 returns-2 : tie.Need-returns-2
 unfolding shapedAs

@@ -1,12 +1,9 @@
 -- `nothing` meets its contract.
-use mathlib.Core.Path.{refl}
+use borrow.Author.Needs.{needs}
 use Rattle.answers.specs.Told.{nothing}
 use Rattle.answers.proofs.Answer.nothing.Statement.{statement}
 use Rattle.answers.proofs.Answer.nothing.Tie as tie
 
-returns : tie.Need-returns
-unfolding nothing
-returns c = refl
-
 pub nothing-spec : {M : Type 1} → statement M
-nothing-spec = tie.close (tie.spec returns)
+unfolding nothing
+nothing-spec = tie.close (tie.spec (λ c. search needs) (λ c κs. search needs) (λ c. c .new .ensures))

@@ -1,12 +1,9 @@
 -- `numbers` meets its contract.
-use mathlib.Core.Path.{refl}
+use borrow.Author.Needs.{needs}
 use Rattle.answers.specs.Told.{numbersTold}
 use Rattle.answers.proofs.Answer.numbers.Statement.{statement}
 use Rattle.answers.proofs.Answer.numbers.Tie as tie
 
-returns : tie.Need-returns
-unfolding numbersTold
-returns c = refl
-
 pub numbers-spec : {M : Type 1} → statement M
-numbers-spec = tie.close (tie.spec returns)
+unfolding numbersTold
+numbers-spec = tie.close (tie.spec (λ c κs. search needs) (λ c. c .new .ensures))

@@ -5,17 +5,18 @@ use lib.ListN.{length, length-take}
 use lib.Seq.{length-take-le}
 use borrow.Author.Needs.{needs}
 use Rattle.answers.specs.Text.{numbersText}
+use Rattle.answers.specs.Told.{mostShown}
 use Rattle.answers.proofs.Answer.tell_numbers.Statement.{statement}
 use Rattle.answers.proofs.Answer.tell_numbers.Tie as tie
 
 array-share-prefix-numbers : tie.Need-array-share-prefix-numbers
 array-share-prefix-numbers c =
-    let seven : length (c .before .before .before .args .self .numbers) ≡ 7 = search needs in
+    let whole : length (c .before .before .before .args .self .numbers) ≡ mostShown = search needs in
     omega (arith, c .before .before .before .pre .0)
 
 slice-aggregate-write-answer : tie.Need-slice-aggregate-write-answer
 slice-aggregate-write-answer c =
-    let seven : length (c .before .before .before .before .args .self .numbers) ≡ 7 = search needs in
+    let whole : length (c .before .before .before .before .args .self .numbers) ≡ mostShown = search needs in
     sym (length-take-le _ _ (omega (arith, c .before .before .before .before .pre .0)))
 
 write-answer-requires : tie.Need-write-answer-requires

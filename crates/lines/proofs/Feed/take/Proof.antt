@@ -6,14 +6,14 @@ use Rattle.lines.proofs.Input.{end-within, taken-ended, taken-goes-on}
 use Rattle.lines.proofs.Feed.take.Statement.{statement}
 use Rattle.lines.proofs.Feed.take.Tie as tie
 
-line-end-requires : tie.Need-line-end-requires
-line-end-requires c κs = search needs
+place-of-requires : tie.Need-place-of-requires
+place-of-requires c κs = search needs
 
 hold-requires : tie.Need-hold-requires
 hold-requires c κs =
     let start = c .before .before .before .before in
-    let within = end-within (start .args .self) (start .args .part .now) _ (start .pre .0) (c .before .line-end .ensures) in
-    (omega arith, omega (arith, c .before .line-end .ensures), omega arith)
+    let within = end-within (start .args .self) (start .args .part .now) _ (start .pre .0) (c .before .place-of .ensures) in
+    (omega arith, omega (arith, c .before .place-of .ensures), omega arith)
 
 add-t9 : tie.Need-add-t9
 add-t9 c = search needs
@@ -31,7 +31,7 @@ returns c =
     let start = found .before .before .before in
     let hold = c .before .before .before .before .before .hold .ensures in
     let law =
-    taken-ended (start .args .self) (start .args .part .now) _ (start .pre .0) (found .line-end .ensures) (start .args .line .now) in
+    taken-ended (start .args .self) (start .args .part .now) _ (start .pre .0) (found .place-of .ensures) (start .args .line .now) in
     rw (c .one-more .ensures) (law _ _ (hold .0) (hold .1) (c .before .if1 .taken))
 
 same-length-2 : tie.Need-same-length-2
@@ -44,14 +44,14 @@ returns-2 c =
     let start = found .before .before .before in
     let hold = c .before .before .before .before .hold .ensures in
     let law =
-    taken-goes-on (start .args .self) (start .args .part .now) _ (start .pre .0) (found .line-end .ensures) (start .args .line .now) in
+    taken-goes-on (start .args .self) (start .args .part .now) _ (start .pre .0) (found .place-of .ensures) (start .args .line .now) in
     law _ _ (hold .0) (hold .1) (c .if1 .left)
 
 pub take-spec : {M : Type 1} → statement M
 take-spec =
     tie.close
     (tie.spec
-    line-end-requires
+    place-of-requires
     hold-requires
     add-t9
     one-more-requires
