@@ -19,18 +19,17 @@ use Rattle.netting.specs.Shares.{floorShare, remainder, centsLeft, comesBefore,
 use Rattle.offers.specs.Rank.{overtakes, insertedBy, rankedBy}
 use Rattle.offers.specs.BuyIn.{offersFor, withGiven, givenBy, given}
 use Rattle.instructions.specs.Match.{fits, firstFit, lowestFit}
-use Rattle.ledger.specs.Obligations.{withGracePrice, cashOf, isDue, buyingIn, compensating}
+use Rattle.ledger.specs.Obligations.{withGracePrice, cashOf, isDue, moving}
 use Rattle.ledger.specs.Obligations.{settled as settledSoFar}
-use Rattle.ledger.specs.Obligations.{delivering as deliveringFrom}
 use Rattle.ledger.specs.Ledger.{obligationAt, withObligation, fetched}
 use Rattle.refusals.specs.Refusals.{answer}
-use Rattle.book.specs.Book.{ageOf}
+use Rattle.book.specs.Book.{withDay, ageOf}
 use Rattle.book.specs.Open.{openRefusals, opened}
 use Rattle.book.specs.Instructing.{obligationOf, enteredAlone, enteredWith, enter, deliverRefusals, deliver}
 use Rattle.refusals.specs.Calls.{fetchOutcome, enterRefusals, deliverRefusalsOf}
 use Rattle.book.specs.Buying.{offerRefusals, offer}
 use Rattle.refusals.specs.Calls.{offerRefusalsIn, offerRefusalsOf, closeRefusalsIn, closeRefusals}
-use Rattle.book.specs.Closing.{closeBy, close, closeWords}
+use Rattle.book.specs.Close.{closeBy, close, closeWords}
 use Rattle.book.specs.Month.{month}
 use Rattle.closing.specs.Lines.{flat, written, then}
 use Rattle.closing.specs.Stages.{priced, penalised, noticeAt, boughtAll, buyInAt, compensated, compensatedAt}
@@ -39,7 +38,7 @@ use Rattle.closing.specs.Close.{stages, closedOne, rowsUpTo, linesUpTo, fined, 
 use Rattle.payments.specs.Month.{overCollected, monthRefusals, paidOut}
 use Rattle.book.specs.declared.Book.{Book}
 use Rattle.journal.specs.Calls.{Call}
-use Rattle.journal.specs.Effects.{linesRead}
+use Rattle.journal.specs.Facts.{linesRead}
 use Rattle.journal.specs.Played.{begun}
 use Rattle.examples.specs.Played.{opening, bookAfter, eventsOn, numbersOf, accepted, answersOf, shown, sale, closeAt, daysPass, toBuyIn, compensationPlayed, capOffers, capPlayed, matchPlayed, deliversPlayed, auctionOffers, auctionPlayed}
 use Rattle.examples.specs.Table.{table, boughtFrom, nthDay, dayNumber, oneOfThree, threeCash, compensatedFor, boughtInTwo}
@@ -67,7 +66,7 @@ example-9 = λ i. dayNumber (thirtieth i) ++ dayNumber (thirty-fifth i) ++ dayNu
 
 -- the rules that the rows are worked out by; a proof that unfolds this name unfolds them all
 unfoldable rules : ℕ
-unfolding total tableFrom countBelow rounded value penalty compensation dueFor cash cashOfEach charge tolerance amountsMatch aboveCap floorShare remainder centsLeft comesBefore rank extraCent share shares overtakes insertedBy rankedBy offersFor withGiven givenBy given boughtFrom among clearing clearingWithin ageAt closedDays listed closedRefused risesFrom answer opened openRefusals ageOf enterRefusals obligationOf enteredAlone enteredWith enter deliverRefusals deliverRefusalsOf deliver fetchOutcome offerRefusals offerRefusalsIn offerRefusalsOf offer fits firstFit lowestFit settledSoFar cashOf deliveringFrom close closeBy closeWords closeRefusals closeRefusalsIn nextAfter nextWithin flat then written stages closedOne rowsUpTo linesUpTo fined accountsUpTo priced penalised noticeAt boughtOffer boughtAll buyInAt compensated compensatedAt isDue buyingIn compensating paidOut month monthRefusals overCollected fetched linesRead debited credited transferred
+unfolding total tableFrom countBelow rounded value penalty compensation dueFor cash cashOfEach charge tolerance amountsMatch aboveCap floorShare remainder centsLeft comesBefore rank extraCent share shares overtakes insertedBy rankedBy offersFor withGiven givenBy given boughtFrom among clearing clearingWithin ageAt closedDays listed closedRefused risesFrom answer opened openRefusals ageOf enterRefusals obligationOf enteredAlone enteredWith enter deliverRefusals deliverRefusalsOf deliver fetchOutcome offerRefusals offerRefusalsIn offerRefusalsOf offer fits firstFit lowestFit settledSoFar cashOf moving close closeBy closeWords closeRefusals closeRefusalsIn nextAfter nextWithin flat then written stages closedOne rowsUpTo linesUpTo fined accountsUpTo priced penalised noticeAt boughtOffer boughtAll buyInAt compensated compensatedAt isDue paidOut month monthRefusals overCollected fetched linesRead debited credited transferred
 rules = 0
 
 -- ---- journals of many days
@@ -82,14 +81,8 @@ sold q a = bookAfter (begun opening .book) (sale 0 1 q a)
 
 -- the book of one obligation on a later day: today is that day, and this is the price of the Close at age = grace
 abbrev onDay : ℕ → ℕ → Book → Book
-onDay today gracePrice b = record {
-  closed = b .closed;
-  terms = b .terms;
-  today = day today;
-  «close_since» = true;
-  legs = b .legs;
-  ledger = withObligation 0 (withGracePrice gracePrice (obligationAt (b .ledger) 0)) (b .ledger);
-}
+onDay today gracePrice b =
+    withDay (record { today = day today; «close_since» = true }) (withObligation 0 (withGracePrice gracePrice (obligationAt (b .ledger) 0)) (b .ledger)) b
 
 -- what a journal shows that goes on from a book: the numbers so far, those of the calls that lead on, and the answers
 abbrev goesOn : List Call → List Call → List ℕ → Book → List ℕ

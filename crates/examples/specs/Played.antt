@@ -6,7 +6,7 @@ use Rattle.calendar.specs.Closed.{day}
 use Rattle.closing.specs.Lines.{flat}
 use Rattle.book.specs.declared.Book.{Book}
 use Rattle.journal.specs.Calls.{Opening, Call, enter, deliver, offer, close, month, Event}
-use Rattle.journal.specs.Effects.{effectOf}
+use Rattle.journal.specs.Facts.{reported, factsOf}
 use Rattle.journal.specs.Played.{outcome, eventOf, begun}
 
 -- O1 and O4, Open: the book of these journals begins on day 2 without closed days. It has terms 1, by which notice, grace
@@ -38,7 +38,7 @@ accepted n = replicate n 0
 -- a Close reports; a refused Close returns 0 as the number of its lines
 abbrev pub answersOf : List Event → List ℕ
 answersOf [] = []
-answersOf (e ∷ later) = (e .answer ∷ e .results ++ flat (effectOf (e .call) (e .results) (e .words) .lines)) ++ answersOf later
+answersOf (e ∷ later) = (e .answer ∷ e .results ++ flat (reported (factsOf (e .call) (e .results) (e .words) .ends))) ++ answersOf later
 
 -- the answer of a Month: its number, and what it pays to the first three members
 abbrev pub payoutsOf : List Event → List ℕ

@@ -10,6 +10,7 @@ use Rattle.basics.specs.Choice.{pick}
 use Rattle.basics.specs.Lists.{total}
 use Rattle.calendar.specs.declared.Day.{Day}
 use Rattle.calendar.specs.Closed.{day, closedDays, closedRefused, listed}
+use Rattle.ledger.proofs.Moving.{part-by}
 use Rattle.refusals.specs.Refusals.{answer}
 use Rattle.refusals.specs.Calls.{badFirst}
 use Rattle.refusals.proofs.Refusals.{passed}
@@ -19,10 +20,10 @@ use Rattle.book.proofs.FreshBooks.{fresh-valid, refused-valid, first-good}
 use Rattle.book.proofs.Paid.{zero-at}
 use Rattle.journal.specs.Calls.{Opening, Call, Run}
 use Rattle.journal.specs.Played.{outcome, eventOf, begun, step, played, callsOf}
-use Rattle.journal.specs.Sums.{closedIn, termsIn, firstDay, todayIn, dealIn, deliveredIn, cancelledIn, reportedIn, accountIn, lastClosedIn}
+use Rattle.journal.specs.Sums.{setupIn, firstDay, todayIn, instructedIn, partIn, accountIn, lastClosedIn}
 use Rattle.journal.specs.Promise.{EveryMonth}
 use Rattle.journal.proofs.Moves.{Agrees, agrees-step}
-use Rattle.journal.proofs.Every.{call-moves}
+use Rattle.journal.proofs.Every.{call-does}
 use Rattle.journal.proofs.Months.{month-pays}
 
 -- a run that is what its calls give, of which the book agrees with the events, and every Month has paid
@@ -33,20 +34,16 @@ pub record Known (s : Run) : Type 0 where
 
 -- ---- the start
 fresh-agrees : (o : Opening) (first : Day) (ds : List ℕ) (terms : ℕ) → Valid (freshBook first (closedDays ds) terms) →
-    closedDays ds ≡ closedIn o → termsOf terms ≡ termsIn o → first ≡ firstDay o → Agrees o (freshBook first (closedDays ds) terms) []
-unfolding todayIn dealIn deliveredIn cancelledIn reportedIn accountIn lastClosedIn total
-fresh-agrees o first ds terms v c t f =
+    record { «closed_days» = closedDays ds; terms = termsOf terms } ≡ setupIn o → first ≡ firstDay o → Agrees o (freshBook first (closedDays ds) terms) []
+unfolding todayIn instructedIn partIn accountIn lastClosedIn total
+fresh-agrees o first ds terms v s f =
     let nobody : (n : ℕ) → ltb n 0 ≡ false = λ n. le-ltb n 0 (omega arith) in
     record {
       valid = v;
-      closed = c;
-      terms = t;
+      setup = s;
       today = f;
-      deals = λ n. rw (nobody n);
-      delivered = λ n. rw (nobody n);
-      bought-in = λ n. rw (nobody n);
-      compensated = λ n. rw (nobody n);
-      cancelled = λ n. rw (nobody n);
+      instructed = λ n. rw (nobody n);
+      parts = λ n k. rw (nobody n) (sym (part-by k (λ j. 0) 0));
       accounts = λ m. sym (zero-at 32 m);
       last = λ n e. absurd (false≢true e);
     }
@@ -64,20 +61,22 @@ open-agrees o = by (eqb n 0) refl
         let p4 = passed 4 (closedRefused (o .closed)) _ (p1 .1) refl in
         let p11 = passed 11 (badFirst (closedDays (o .closed)) (o .first)) _ (p4 .1) refl in
         let good = first-good (listed (closedDays (o .closed))) (o .first) (p11 .0) in
-        fresh-agrees o (o .first) (o .closed) (o .terms) (fresh-valid (o .first) (o .closed) (o .terms) (p4 .0) (good .0) (good .1)) (rw e) (rw e) (rw e)
-    by false e = fresh-agrees o (day 2) [] 0 refused-valid (rw e) (rw e) (rw e)
+        fresh-agrees o (o .first) (o .closed) (o .terms) (fresh-valid (o .first) (o .closed) (o .terms) (p4 .0) (good .0) (good .1)) (rw e) (rw e)
+    by false e = fresh-agrees o (day 2) [] 0 refused-valid (rw e) (rw e)
 
 pub begun-known : (o : Opening) → Known (begun o)
 begun-known o = record { agrees = open-agrees o; answered = refl; months = tt }
 
 -- ---- one call more
 pub step-known : (s : Run) (c : Call) → Known s → Known (step s c)
-step-known s c k = record {
-  agrees = agrees-step (s .opening) (s .book) (outcome (s .book) c .book) (s .past) (eventOf (s .book) c) (k .agrees)
-      (call-moves (s .book) (k .agrees .valid) c);
-  answered = ap (λ (r : Run). step r c) (k .answered);
-  months = (month-pays (s .opening) (s .book) (s .past) (k .agrees) c, k .months);
-}
+step-known s c k =
+    let d = call-does (s .book) (k .agrees .valid) c in
+    let e = eventOf (s .book) c in
+    record {
+      agrees = agrees-step (s .opening) (s .book) (outcome (s .book) c .book) (s .past) e (k .agrees) (d .moves);
+      answered = ap (λ (r : Run). step r c) (k .answered);
+      months = (month-pays (s .opening) (s .book) (outcome (s .book) c .book) (s .past) e (k .agrees) d, k .months);
+    }
 
 pub played-known : (o : Opening) (cs : List Call) → Known (played o cs)
 played-known o [] = begun-known o

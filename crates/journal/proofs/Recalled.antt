@@ -18,37 +18,37 @@ use Rattle.ledger.specs.Ledger.{obligationAt}
 use Rattle.book.specs.Book.{ageOf}
 use Rattle.journal.specs.Calls.{Run}
 use Rattle.journal.specs.Played.{callsOf}
-use Rattle.journal.specs.Sums.{todayIn, dealIn}
+use Rattle.journal.specs.Sums.{todayIn, instructedIn}
 use Rattle.journal.specs.History.{closeSinceIn, gracePriceIn, offersIn, wishedIn, legsIn, legIn, waitingIn}
 use Rattle.journal.specs.Promise.{EveryCapPrice}
-use Rattle.journal.proofs.Moves.{dealAt, Agrees}
+use Rattle.journal.proofs.Moves.{instructedAt, Agrees}
 use Rattle.journal.proofs.CapPrices.{known-capped}
 use Rattle.journal.proofs.Model.{Known}
 use Rattle.journal.proofs.Demand3.{Ran}
 use Rattle.journal.proofs.Theorem.{known}
-use Rattle.journal.proofs.RecalledCalls.{entered-length, entered-at}
+use Rattle.journal.proofs.Every.{entered-length, entered-at}
 use Rattle.journal.proofs.Recalling.{RunRecalls, played-recalls}
 
 -- What the rules word by what happened before: each thing of this kind that a book stores is what its Open and events tell.
 pub record Remembered (s : Run) : Type 0 where
   -- C17, Close: today
-  pub today : s .book .today ≡ todayIn (s .opening) (s .past)
+  pub today : s .book .day .today ≡ todayIn (s .opening) (s .past)
   -- R21, Refusals: whether a Close was accepted since Open or since the last accepted Month
-  pub close-since : s .book .«close_since» ≡ closeSinceIn (s .past)
+  pub close-since : s .book .day .«close_since» ≡ closeSinceIn (s .past)
   -- B9, Buy-in: the price of the Close at age = grace, where something is outstanding
   pub grace-price : (n : ℕ) → n < s .book .ledger .count → 0 < obligationAt (s .book .ledger) n .parts .outstanding →
-      obligationAt (s .book .ledger) n .«grace_price» ≡ gracePriceIn (s .opening) n (s .past)
+      obligationAt (s .book .ledger) n .stage .«grace_price» ≡ gracePriceIn (s .opening) n (s .past)
   -- B9, Buy-in: where the age is above grace as well, this price is there: it is at least 1
   pub cap-price : (n : ℕ) → n < s .book .ledger .count → 0 < obligationAt (s .book .ledger) n .parts .outstanding →
-      s .book .terms .grace .0 < ageOf (s .book) (obligationAt (s .book .ledger) n) → 1 ≤ obligationAt (s .book .ledger) n .«grace_price»
+      s .book .setup .terms .grace .0 < ageOf (s .book) (obligationAt (s .book .ledger) n) → 1 ≤ obligationAt (s .book .ledger) n .stage .«grace_price»
   -- B5 and C7, Buy-in and Close: the offers of today, in the order of their turns
   pub offers : listed (s .book .ledger .offers) ≡ ranked (offersIn (s .past))
   pub in-order : InOrder (offersIn (s .past)) (listed (s .book .ledger .offers))
   -- K1 and K4, Cancel: the wishes of the seller and of the buyer
   pub seller-wish : (n : ℕ) → n < s .book .ledger .count →
-      obligationAt (s .book .ledger) n .«seller_wish» ≡ wishedIn n (obligationAt (s .book .ledger) n .seller) (s .past)
+      obligationAt (s .book .ledger) n .wishes .seller ≡ wishedIn n (obligationAt (s .book .ledger) n .deal .seller) (s .past)
   pub buyer-wish : (n : ℕ) → n < s .book .ledger .count →
-      obligationAt (s .book .ledger) n .«buyer_wish» ≡ wishedIn n (obligationAt (s .book .ledger) n .buyer) (s .past)
+      obligationAt (s .book .ledger) n .wishes .buyer ≡ wishedIn n (obligationAt (s .book .ledger) n .deal .buyer) (s .past)
   -- E2, E3 and T1, Enter and Withdraw: the legs, what each was instructed to be, and whether it waits
   pub legs : entered (s .book .legs) ≡ legsIn (s .past)
   pub leg : (n : ℕ) → n < s .book .legs .count → legIn n (s .past) ≡ some (inState Waiting (legAt (s .book .legs) n))
@@ -71,14 +71,14 @@ told s g k p =
       grace-price = λ n h left. rw (there n h) at (k .prices n (λ z. left));
       cap-price = λ n h left old.
           let price = rw (there n h) at (k .prices n (λ z. left)) in
-          let deal : dealIn n (s .past) ≡ some (dealAt (obligationAt l n)) = rw (g .deals n, there n h) in
-          omega (arith, price, p n (dealAt (obligationAt l n)) deal (rw (g .terms, g .closed, g .today) at old) .price);
+          let instructed : instructedIn n (s .past) ≡ some (instructedAt (obligationAt l n)) = rw (g .instructed n, there n h) in
+          omega (arith, price, p n (instructedAt (obligationAt l n)) instructed (rw (g .setup, g .today) at old) .price);
       offers = k .offers;
       in-order = rw (k .offers) (ranked-in-order (offersIn (s .past)));
-      seller-wish = λ n h. rw (there n h, eq-eqb (obligationAt l n .seller) (obligationAt l n .seller) refl) at (k .wishes n (obligationAt l n .seller));
+      seller-wish = λ n h. rw (there n h, eq-eqb (obligationAt l n .deal .seller) (obligationAt l n .deal .seller) refl) at (k .wishes n (obligationAt l n .deal .seller));
       buyer-wish = λ n h.
-          rw (there n h, ne-eqb (obligationAt l n .seller) (obligationAt l n .buyer) (v .ledger-valid .sound n h .parties-apart), eq-eqb (obligationAt l n .buyer) (obligationAt l n .buyer) refl)
-          at (k .wishes n (obligationAt l n .buyer));
+          rw (there n h, ne-eqb (obligationAt l n .deal .seller) (obligationAt l n .deal .buyer) (v .ledger .sound n h .deal .parties-apart), eq-eqb (obligationAt l n .deal .buyer) (obligationAt l n .deal .buyer) refl)
+          at (k .wishes n (obligationAt l n .deal .buyer));
       legs = k .legs;
       leg = λ n h. sym (k .leg n) ∙ rw (row n h, size, lt-ltb n (s .book .legs .count) h);
       no-leg = λ n h. (

@@ -18,7 +18,8 @@ use Rattle.instructions.specs.declared.Fit.the-variants.{With, Nobody}
 use Rattle.instructions.specs.Legs.{isWaiting, noLeg, inState}
 use Rattle.instructions.specs.Match.{firstFit}
 use Rattle.journal.specs.Sums.{orElse}
-use Rattle.journal.specs.History.{LegChange, enters, withdraws, neither, legIntoState, legsWith, legsAfter, enteredAs, isFit, waitsAfter}
+use Rattle.journal.specs.Facts.{LegChange, enters, withdraws, neither}
+use Rattle.journal.specs.History.{legIntoState, legsWith, legsAfter, enteredAs, isFit, waitsAfter}
 
 -- ---- legs of a list
 -- leg n of these as it was instructed

@@ -26,19 +26,19 @@ use Rattle.book.specs.Book.{ageOf}
 use Rattle.book.specs.Open.{opened, openRefusals, openRefused, freshBook, refusedBook}
 use Rattle.journal.specs.Calls.{Opening, Call, Event, Run}
 use Rattle.journal.specs.Played.{outcome, eventOf, played}
-use Rattle.journal.specs.Effects.{effect}
-use Rattle.journal.specs.Sums.{closedIn, termsIn, todayIn, orElse, dealIn, isMonth}
-use Rattle.journal.specs.History.{trace, closeSinceIn, isGraceDay, gracePriceIn, offersIn, wishedIn, legsAfter, legsIn, enteredAs, legIn, waitsAfter, waitingIn}
-use Rattle.journal.proofs.Moves.{dealAt, heldParts, Moves, Agrees}
-use Rattle.journal.proofs.Every.{call-moves}
+use Rattle.journal.specs.Facts.{isEnd, priceOf, facts}
+use Rattle.journal.specs.Sums.{closedIn, termsIn, todayIn, orElse, instructedIn, isMonth}
+use Rattle.journal.specs.History.{closeSinceIn, isGraceDay, gracePriceIn, offersIn, wishedIn, legsAfter, legsIn, enteredAs, legIn, waitsAfter, waitingIn}
+use Rattle.journal.proofs.Moves.{instructedAt, heldParts, Moves, Agrees}
+use Rattle.journal.proofs.Every.{call-does}
 use Rattle.journal.proofs.Model.{played-known}
 use Rattle.journal.proofs.RecalledLegs.{legOf, waitsOf, Proper, change-leg, change-waits}
 use Rattle.journal.proofs.RecalledRows.{heldPrice, heldWish, atGrace, Stands}
-use Rattle.journal.proofs.RecalledCalls.{Leaves, call-leaves}
+use Rattle.journal.proofs.Does.{Leaves}
 
 -- the book stores what the events tell
 pub record Recalls (o : Opening) (b : Book) (es : List Event) : Type 0 where
-  pub close-since : b .«close_since» ≡ closeSinceIn es
+  pub close-since : b .day .«close_since» ≡ closeSinceIn es
   pub prices : (n : ℕ) → Stands b n → heldPrice b n ≡ gracePriceIn o n es
   pub offers : listed (b .ledger .offers) ≡ ranked (offersIn es)
   pub wishes : (n m : ℕ) → heldWish m b n ≡ wishedIn n m es
@@ -69,8 +69,8 @@ open-recalls o =
     (λ e. fresh-recalls o (o .first) (closedDays (o .closed)) (o .terms))
 
 -- ---- one call more
-module _ (o : Opening) (b after : Book) (es : List Event) (e : Event) (g : Agrees o b es) (m : Moves b after (effect e))
-    (l : Leaves b after (effect e) (trace e)) (k : Recalls o b es) where
+module _ (o : Opening) (b after : Book) (es : List Event) (e : Event) (g : Agrees o b es) (m : Moves b after (facts e))
+    (l : Leaves b after (facts e)) (k : Recalls o b es) where
   -- what is outstanding after the call was so before it
   stands-before : (n : ℕ) → Stands after n → Stands b n
   stands-before n s h =
@@ -80,30 +80,30 @@ module _ (o : Opening) (b after : Book) (es : List Event) (e : Event) (g : Agree
       omega (arith, s there, m .less n h, ap (λ (p : Parts). p .outstanding) now, ap (λ (p : Parts). p .outstanding) before)
 
   -- the events tell whether the age is grace
-  grace-told : (n : ℕ) → atGrace b n ≡ isGraceDay o (todayIn o es) (dealIn n es)
+  grace-told : (n : ℕ) → atGrace b n ≡ isGraceDay o (todayIn o es) (instructedIn n es)
   unfolding ageOf
-  grace-told n = rw (g .deals n, g .closed, g .today, g .terms) (by (ltb n (b .ledger .count)))
+  grace-told n = rw (g .instructed n, g .setup, g .today) (by (ltb n (b .ledger .count)))
     where
       by : (t : Bool) →
-          pick t (eqb (ageAt (closedListed (closedIn o)) (obligationAt (b .ledger) n .day) (todayIn o es) .0) (termsIn o .grace .0)) false ≡
-          isGraceDay o (todayIn o es) (pick t (some (dealAt (obligationAt (b .ledger) n))) none)
+          pick t (eqb (ageAt (closedListed (closedIn o)) (obligationAt (b .ledger) n .deal .day) (todayIn o es) .0) (termsIn o .grace .0)) false ≡
+          isGraceDay o (todayIn o es) (pick t (some (instructedAt (obligationAt (b .ledger) n))) none)
       by true = refl
       by false = refl
 
   recalls-step : Recalls o after (e ∷ es)
   unfolding closeSinceIn gracePriceIn offersIn wishedIn legsIn legIn waitingIn
   recalls-step =
-      let proper : Proper (trace e .legs) (legsIn es) = rw (k .legs) at (l .proper) in
+      let proper : Proper (facts e .legs) (legsIn es) = rw (k .legs) at (l .proper) in
       record {
-        close-since = l .close-since ∙ ap (λ (t : Bool). pick (effect e .turns) true (pick (isMonth (effect e .collects)) false t)) (k .close-since);
+        close-since = l .close-since ∙ ap (λ (t : Bool). pick (isEnd (facts e .ends)) true (pick (isMonth (facts e .collects)) false t)) (k .close-since);
         prices = λ n s.
             l .rows .prices n s
-            ∙ ap₂ (λ (t : Bool) (p : ℕ). pick (effect e .turns && t) (trace e .price) p) (grace-told n) (k .prices n (stands-before n s));
+            ∙ ap₂ (λ (t : Bool) (p : ℕ). pick (isEnd (facts e .ends) && t) (priceOf (facts e .ends)) p) (grace-told n) (k .prices n (stands-before n s));
         offers = l .offers (offersIn es) (k .offers);
-        wishes = λ n j. l .rows .wished n j ∙ ap (λ (t : Bool). trace e .wishes n j || t) (k .wishes n j);
-        legs = l .legs ∙ ap (legsAfter (trace e .legs)) (k .legs);
-        leg = λ n. change-leg (trace e .legs) (legsIn es) proper n ∙ ap (orElse (enteredAs n (trace e .legs))) (k .leg n);
-        waits = λ n. change-waits (trace e .legs) (legsIn es) proper n ∙ ap (waitsAfter n (trace e .legs) (legsIn es)) (k .waits n);
+        wishes = λ n j. l .rows .wished n j ∙ ap (λ (t : Bool). facts e .wishes n j || t) (k .wishes n j);
+        legs = l .legs ∙ ap (legsAfter (facts e .legs)) (k .legs);
+        leg = λ n. change-leg (facts e .legs) (legsIn es) proper n ∙ ap (orElse (enteredAs n (facts e .legs))) (k .leg n);
+        waits = λ n. change-waits (facts e .legs) (legsIn es) proper n ∙ ap (waitsAfter n (facts e .legs) (legsIn es)) (k .waits n);
       }
 
 -- ---- every run
@@ -115,5 +115,5 @@ played-recalls o [] = open-recalls o
 played-recalls o (c ∷ earlier) =
     let s = played o earlier in
     let g = played-known o earlier .agrees in
-    recalls-step (s .opening) (s .book) (outcome (s .book) c .book) (s .past) (eventOf (s .book) c) g
-    (call-moves (s .book) (g .valid) c) (call-leaves (s .book) (g .valid) c) (played-recalls o earlier)
+    let d = call-does (s .book) (g .valid) c in
+    recalls-step (s .opening) (s .book) (outcome (s .book) c .book) (s .past) (eventOf (s .book) c) g (d .moves) (d .leaves) (played-recalls o earlier)

@@ -6,6 +6,7 @@ use mathlib.Core.Path.{_≡_, refl, sym, ap, _∙_}
 use mathlib.Core.Bool.{Bool, true, false, _&&_}
 use mathlib.Core.Logic.{⊎-elim}
 use mathlib.Core.List.{List, [], _∷_, _++_, append-nil}
+use mathlib.Core.Option.{some}
 use lib.Dec.{eqb}
 use lib.ListN.{length, getD, drop}
 use borrow.Author.Tests.{eq-eqb, ne-eqb}
@@ -20,18 +21,20 @@ use Rattle.offers.specs.declared.Offer.{Offer}
 use Rattle.offers.specs.declared.Given.{Given}
 use Rattle.offers.specs.BuyIn.{given}
 use Rattle.ledger.specs.declared.Terms.{Terms}
-use Rattle.ledger.specs.declared.Parts.{Parts}
+use Rattle.ledger.specs.declared.Part.{Part}
+use Rattle.ledger.specs.declared.Part.the-variants.{BoughtIn, Compensated}
+use Rattle.ledger.specs.Parts.{partOf, samePart}
+use Rattle.ledger.proofs.Moving.{part-moved}
 use Rattle.ledger.specs.declared.Obligation.{Obligation}
-use Rattle.ledger.specs.Obligations.{noObligation, isDue, inBuyIn, buyingIn, compensating}
+use Rattle.ledger.specs.Obligations.{noObligation, isDue, inBuyIn, moving}
 use Rattle.closing.specs.declared.DayEnd.{DayEnd}
 use Rattle.closing.specs.declared.Line.{Line}
-use Rattle.closing.specs.Lines.{flat, written, Made, nothing, then}
-use Rattle.closing.specs.Stages.{priced, penalised, noticeAt, boughtFrom, boughtAll, buyInAt, compensated, compensatedAt}
+use Rattle.closing.specs.Lines.{penaltyKind, noticeKind, flat, written, Made, nothing, then}
+use Rattle.closing.specs.Stages.{plainLine, priced, penalised, noticeAt, boughtFrom, boughtAll, buyInAt, compensated, compensatedAt}
 use Rattle.closing.specs.Close.{stages, closedOne, closedAt, linesUpTo}
 use Rattle.closing.proofs.Parts.{priced-parts}
-use Rattle.journal.specs.Effects.{linesRead}
+use Rattle.journal.specs.Facts.{linesRead, partOfKind, isPart, quantityTo}
 use Rattle.calendar.specs.Closed.{listed as closedListed}
-use Rattle.journal.specs.Sums.{quantityOf}
 use Rattle.journal.specs.Promise.{Purchase, purchasesIn}
 
 -- ---- the lines of one obligation
@@ -61,15 +64,15 @@ and-none : (t : Bool) → (t && false) ≡ false
 and-none true = refl
 and-none false = refl
 
-total-own : (kind k : ℕ) (ls : List Line) → total (quantityOf kind k) ls ≡ total (quantityOf kind k) (own k ls)
-unfolding total quantityOf
-total-own kind k [] = refl
-total-own kind k (l ∷ ls) = by (eqb (l .obligation) k) refl (total-own kind k ls)
+total-own : (part : Part) (k : ℕ) (ls : List Line) → total (quantityTo part k) ls ≡ total (quantityTo part k) (own k ls)
+unfolding total quantityTo
+total-own part k [] = refl
+total-own part k (l ∷ ls) = by (eqb (l .obligation) k) refl (total-own part k ls)
   where
-    by : (t : Bool) → eqb (l .obligation) k ≡ t → total (quantityOf kind k) ls ≡ total (quantityOf kind k) (own k ls) →
-        pick (eqb (l .kind) kind && eqb (l .obligation) k) (l .quantity) 0 + total (quantityOf kind k) ls ≡ total (quantityOf kind k) (pick t (l ∷ own k ls) (own k ls))
-    by true e q = ap (λ (x : ℕ). pick (eqb (l .kind) kind && eqb (l .obligation) k) (l .quantity) 0 + x) q
-    by false e q = rw (e, and-none (eqb (l .kind) kind)) (zero-add (total (quantityOf kind k) ls) ∙ q)
+    by : (t : Bool) → eqb (l .obligation) k ≡ t → total (quantityTo part k) ls ≡ total (quantityTo part k) (own k ls) →
+        pick (isPart part (partOfKind (l .kind)) && eqb (l .obligation) k) (l .quantity) 0 + total (quantityTo part k) ls ≡ total (quantityTo part k) (pick t (l ∷ own k ls) (own k ls))
+    by true e q = ap (λ (x : ℕ). pick (isPart part (partOfKind (l .kind)) && eqb (l .obligation) k) (l .quantity) 0 + x) q
+    by false e q = rw (e, and-none (isPart part (partOfKind (l .kind)))) (zero-add (total (quantityTo part k) ls) ∙ q)
 
 purchases-own : (k : ℕ) (ls : List Line) → purchasesIn k ls ≡ purchasesIn k (own k ls)
 unfolding purchasesIn
@@ -79,127 +82,119 @@ purchases-own k (l ∷ ls) = by (eqb (l .obligation) k) refl (purchases-own k ls
     p : Purchase
     p = record { quantity = l .quantity; supplier = l .supplier; price = l .price }
 
+    bought : Bool
+    bought = isPart BoughtIn (partOfKind (l .kind))
+
     by : (t : Bool) → eqb (l .obligation) k ≡ t → purchasesIn k ls ≡ purchasesIn k (own k ls) →
-        pick (eqb (l .kind) 3 && eqb (l .obligation) k) (p ∷ purchasesIn k ls) (purchasesIn k ls) ≡ purchasesIn k (pick t (l ∷ own k ls) (own k ls))
-    by true e q = ap (λ (ps : List Purchase). pick (eqb (l .kind) 3 && eqb (l .obligation) k) (p ∷ ps) ps) q
-    by false e q = rw (e, and-none (eqb (l .kind) 3)) q
+        pick (bought && eqb (l .obligation) k) (p ∷ purchasesIn k ls) (purchasesIn k ls) ≡ purchasesIn k (pick t (l ∷ own k ls) (own k ls))
+    by true e q = ap (λ (ps : List Purchase). pick (bought && eqb (l .obligation) k) (p ∷ ps) ps) q
+    by false e q = rw (e, and-none bought) q
 
 -- ---- one obligation
--- what a Close of one obligation moves is what its lines say
-pub record Moved (n : ℕ) (o : Obligation) (m : Made) : Type 0 where
-  pub delivered : m .obligation .parts .delivered ≡ o .parts .delivered
-  pub cancelled : m .obligation .parts .cancelled ≡ o .parts .cancelled
-  pub bought-in : m .obligation .parts .«bought_in» ≡ o .parts .«bought_in» + total (quantityOf 3 n) (m .lines)
-  pub compensated : m .obligation .parts .compensated ≡ o .parts .compensated + total (quantityOf 4 n) (m .lines)
+-- what a Close of one obligation moves to each part is what its lines say
+abbrev pub Moved : ℕ → Obligation → Made → Type 0
+Moved n o m = (k : Part) → partOf k (m .obligation .parts) ≡ partOf k (o .parts) + total (quantityTo k n) (m .lines)
 
 -- a line of obligation n that is no penalty
 pub record Behind (n : ℕ) (l : Line) : Type 0 where
   pub own : l .obligation ≡ n
-  pub no-penalty : eqb (l .kind) 1 ≡ false
+  pub no-penalty : eqb (l .kind) penaltyKind ≡ false
 
 -- what a part of a Close does that comes after the penalty
-pub record Part (n : ℕ) (o : Obligation) (m : Made) : Type 0 where
+pub record Behaves (n : ℕ) (o : Obligation) (m : Made) : Type 0 where
   pub moved : Moved n o m
   pub behind : Every (Behind n) (m .lines)
 
 module _ (n : ℕ) where
   -- lines of other kinds, with parts as they were
-  moved-none : (o p : Obligation) (ls : List Line) → p .parts ≡ o .parts → total (quantityOf 3 n) ls ≡ 0 → total (quantityOf 4 n) ls ≡ 0 →
+  moved-none : (o p : Obligation) (ls : List Line) → p .parts ≡ o .parts → ((k : Part) → total (quantityTo k n) ls ≡ 0) →
       Moved n o (record { obligation = p; lines = ls })
-  moved-none o p ls e x y = record {
-    delivered = ap (λ (q : Parts). q .delivered) e;
-    cancelled = ap (λ (q : Parts). q .cancelled) e;
-    bought-in = omega (arith, ap (λ (q : Parts). q .«bought_in») e);
-    compensated = omega (arith, ap (λ (q : Parts). q .compensated) e);
-  }
+  moved-none o p ls e x k = ap (partOf k) e ∙ omega (arith, x k)
+
+  -- a line that says what became part j of the obligation
+  moved-line : (o : Obligation) (j : Part) (l : Line) → l .obligation ≡ n → partOfKind (l .kind) ≡ some j →
+      Moved n o (record { obligation = moving j (l .quantity) o; lines = l ∷ [] })
+  unfolding moving total quantityTo
+  moved-line o j l own says k =
+      part-moved k j (l .quantity) (o .parts) ∙ rw (says, eq-eqb (l .obligation) n own) (by (samePart k j))
+    where
+      by : (t : Bool) → pick t (partOf k (o .parts) + l .quantity) (partOf k (o .parts)) ≡ partOf k (o .parts) + (pick (t && true) (l .quantity) 0 + 0)
+      by true = omega arith
+      by false = omega arith
 
   -- what two parts move is what the lines of both say
   moved-then : (o : Obligation) (m : Made) (f : Obligation → Made) → Moved n o m → Moved n (m .obligation) (f (m .obligation)) → Moved n o (then m f)
   unfolding then
-  moved-then o m f a b =
-      let ls : List Line = f (m .obligation) .lines in
-      record {
-        delivered = b .delivered ∙ a .delivered;
-        cancelled = b .cancelled ∙ a .cancelled;
-        bought-in = omega (arith, total-append (quantityOf 3 n) (m .lines) ls);
-        compensated = omega (arith, total-append (quantityOf 4 n) (m .lines) ls);
-      }
+  moved-then o m f a b k = omega (arith, a k, b k, total-append (quantityTo k n) (m .lines) (f (m .obligation) .lines))
 
-  part-nothing : (o : Obligation) → Part n o (nothing o)
+  part-nothing : (o : Obligation) → Behaves n o (nothing o)
   unfolding total
-  part-nothing o = record { moved = moved-none o o [] refl refl refl; behind = nobody }
+  part-nothing o = record { moved = moved-none o o [] refl (λ k. refl); behind = nobody }
 
-  part-then : (o : Obligation) (m : Made) (f : Obligation → Made) → Part n o m → Part n (m .obligation) (f (m .obligation)) → Part n o (then m f)
+  part-then : (o : Obligation) (m : Made) (f : Obligation → Made) → Behaves n o m → Behaves n (m .obligation) (f (m .obligation)) → Behaves n o (then m f)
   unfolding then
   part-then o m f a b = record { moved = moved-then o m f (a .moved) (b .moved); behind = every-append (a .behind) (b .behind) }
 
-  notice-part : (terms : Terms) (age : ℕ) (o : Obligation) → Part n o (noticeAt terms age n o)
-  unfolding noticeAt total quantityOf
+  notice-part : (terms : Terms) (age : ℕ) (o : Obligation) → Behaves n o (noticeAt terms age n o)
+  unfolding noticeAt total quantityTo
   notice-part terms age o =
-      pick-case (Part n o) (eqb age (terms .notice .0)) _ _
-      (λ e. record { moved = moved-none o o _ refl refl refl; behind = also (record { own = refl; no-penalty = refl }) nobody })
+      pick-case (Behaves n o) (eqb age (terms .notice .0)) _ _
+      (λ e. record { moved = moved-none o o (plainLine noticeKind n (o .parts .outstanding) 0 ∷ []) refl (λ k. refl); behind = also (record { own = refl; no-penalty = refl }) nobody })
       (λ e. part-nothing o)
 
-  bought-from-part : (g : Given) (o : Obligation) → Part n o (boughtFrom n g o)
-  unfolding boughtFrom buyingIn total quantityOf
-  bought-from-part g o =
-      record {
-        moved = record { delivered = refl; cancelled = refl; bought-in = rw (eq-eqb n n refl) (omega arith); compensated = omega arith };
-        behind = also (record { own = refl; no-penalty = refl }) nobody;
-      }
+  bought-from-part : (g : Given) (o : Obligation) → Behaves n o (boughtFrom n g o)
+  unfolding boughtFrom
+  bought-from-part g o = record { moved = moved-line o BoughtIn _ refl refl; behind = also (record { own = refl; no-penalty = refl }) nobody }
 
-  bought-part : (gs : List Given) (o : Obligation) → Part n o (boughtAll n gs o)
+  bought-part : (gs : List Given) (o : Obligation) → Behaves n o (boughtAll n gs o)
   unfolding boughtAll
   bought-part [] o = part-nothing o
   bought-part (g ∷ gs) o =
       part-then o (boughtFrom n g o) (boughtAll n gs) (bought-from-part g o) (bought-part gs (boughtFrom n g o .obligation))
 
-  buy-in-part : (terms : Terms) (age : ℕ) (offers : List Offer) (o : Obligation) → Part n o (buyInAt terms age offers n o)
+  buy-in-part : (terms : Terms) (age : ℕ) (offers : List Offer) (o : Obligation) → Behaves n o (buyInAt terms age offers n o)
   unfolding buyInAt
   buy-in-part terms age offers o =
-      pick-case (Part n o) (inBuyIn terms age) _ _
+      pick-case (Behaves n o) (inBuyIn terms age) _ _
       (λ e. bought-part (given n (o .parts .outstanding) offers) o)
       (λ e. part-nothing o)
 
-  compensated-part : (price : ℕ) (o : Obligation) → Part n o (compensated price n o)
-  unfolding compensated compensating total quantityOf
+  compensated-part : (price : ℕ) (o : Obligation) → Behaves n o (compensated price n o)
+  unfolding compensated
   compensated-part price o =
-      pick-case (Part n o) (eqb (o .parts .outstanding) 0) _ _
+      pick-case (Behaves n o) (eqb (o .parts .outstanding) 0) _ _
       (λ e. part-nothing o)
-      (λ e. record {
-        moved = record { delivered = refl; cancelled = refl; bought-in = omega arith; compensated = rw (eq-eqb n n refl) (omega arith) };
-        behind = also (record { own = refl; no-penalty = refl }) nobody;
-      })
+      (λ e. record { moved = moved-line o Compensated _ refl refl; behind = also (record { own = refl; no-penalty = refl }) nobody })
 
-  compensated-at-part : (terms : Terms) (age price : ℕ) (o : Obligation) → Part n o (compensatedAt terms age price n o)
+  compensated-at-part : (terms : Terms) (age price : ℕ) (o : Obligation) → Behaves n o (compensatedAt terms age price n o)
   unfolding compensatedAt
   compensated-at-part terms age price o =
-      pick-case (Part n o) (eqb age (terms .last .0)) _ _ (λ e. compensated-part price o) (λ e. part-nothing o)
+      pick-case (Behaves n o) (eqb age (terms .last .0)) _ _ (λ e. compensated-part price o) (λ e. part-nothing o)
 
 -- ---- all parts of a Close together
 -- what stays with each part that comes after the penalty
 abbrev pub Stays : ℕ → (Made → Type 0) → Type 0
-Stays n P = (x : Made) (f : Obligation → Made) → P x → Part n (x .obligation) (f (x .obligation)) → P (then x f)
+Stays n P = (x : Made) (f : Obligation → Made) → P x → Behaves n (x .obligation) (f (x .obligation)) → P (then x f)
 
 module _ (d : DayEnd) (offers : List Offer) (n : ℕ) (o : Obligation) where
   -- the first part, at an age
   abbrev pub fine : ℕ → Made
-  fine age = penalised n (d .price) (d .rate) (priced (d .terms) age (d .price) o)
+  fine age = penalised n (d .price) (d .rate) (priced (d .setup .terms) age (d .price) o)
 
   -- what holds of the penalty and stays holds of all parts
   stages-by : (P : Made → Type 0) → Stays n P → (age : ℕ) → P (fine age) → P (stages d age offers n o)
   unfolding stages
   stages-by P more age p =
-      let noticed : Made = then (fine age) (noticeAt (d .terms) age n) in
-      let bought : Made = then noticed (buyInAt (d .terms) age offers n) in
-      let q = more (fine age) (noticeAt (d .terms) age n) p (notice-part n (d .terms) age (fine age .obligation)) in
-      let r = more noticed (buyInAt (d .terms) age offers n) q (buy-in-part n (d .terms) age offers (noticed .obligation)) in
-      more bought (compensatedAt (d .terms) age (d .price) n) r (compensated-at-part n (d .terms) age (d .price) (bought .obligation))
+      let noticed : Made = then (fine age) (noticeAt (d .setup .terms) age n) in
+      let bought : Made = then noticed (buyInAt (d .setup .terms) age offers n) in
+      let q = more (fine age) (noticeAt (d .setup .terms) age n) p (notice-part n (d .setup .terms) age (fine age .obligation)) in
+      let r = more noticed (buyInAt (d .setup .terms) age offers n) q (buy-in-part n (d .setup .terms) age offers (noticed .obligation)) in
+      more bought (compensatedAt (d .setup .terms) age (d .price) n) r (compensated-at-part n (d .setup .terms) age (d .price) (bought .obligation))
 
   -- a fact of a Close, by whether the obligation is due
   pub closed-by : (P : Bool → Made → Type 0) → Stays n (P true) → ((age : ℕ) → P true (fine age)) → P false (nothing o) → P (isDue (d .today) o) (closedOne d offers n o)
   unfolding closedOne
-  closed-by P more p q = by (isDue (d .today) o) (ageAt (closedListed (d .closed)) (o .day) (d .today) .0)
+  closed-by P more p q = by (isDue (d .today) o) (ageAt (closedListed (d .setup .«closed_days»)) (o .deal .day) (d .today) .0)
     where
       by : (t : Bool) (age : ℕ) → P t (pick t (stages d age offers n o) (nothing o))
       by true age = stages-by (P true) more age (p age)
@@ -207,10 +202,10 @@ module _ (d : DayEnd) (offers : List Offer) (n : ℕ) (o : Obligation) where
 
   -- what it moves is what its lines say
   pub closed-moved : Moved n o (closedOne d offers n o)
-  unfolding penalised total quantityOf
+  unfolding penalised total quantityTo
   closed-moved =
       closed-by (λ t. Moved n o) (λ x f a p. moved-then n o x f a (p .moved))
-      (λ age. moved-none n o (fine age .obligation) (fine age .lines) (priced-parts (d .terms) age (d .price) o) refl refl)
+      (λ age. moved-none n o (fine age .obligation) (fine age .lines) (priced-parts (d .setup .terms) age (d .price) o) (λ k. refl))
       (part-nothing n o .moved)
 
   -- its lines are of its own obligation
@@ -244,12 +239,12 @@ module _ (d : DayEnd) (offers : List Offer) (os : List Obligation) where
       rw (own-lines n k q, own-none k n (omega arith) (closed-own d offers n (getD os n noObligation))) (append-nil (closedAt d offers os k .lines)))
       (last-or-below k n h)
 
-  pub reported-none : (n kind k : ℕ) → n ≤ k → total (quantityOf kind k) (linesUpTo d offers os n) ≡ 0
+  pub reported-none : (n : ℕ) (part : Part) (k : ℕ) → n ≤ k → total (quantityTo part k) (linesUpTo d offers os n) ≡ 0
   unfolding total
-  reported-none n kind k h = total-own kind k (linesUpTo d offers os n) ∙ rw (own-behind n k h)
+  reported-none n part k h = total-own part k (linesUpTo d offers os n) ∙ rw (own-behind n k h)
 
-  pub reported-one : (n kind k : ℕ) → k < n → total (quantityOf kind k) (linesUpTo d offers os n) ≡ total (quantityOf kind k) (closedAt d offers os k .lines)
-  reported-one n kind k h = total-own kind k (linesUpTo d offers os n) ∙ rw (own-lines n k h)
+  pub reported-one : (n : ℕ) (part : Part) (k : ℕ) → k < n → total (quantityTo part k) (linesUpTo d offers os n) ≡ total (quantityTo part k) (closedAt d offers os k .lines)
+  reported-one n part k h = total-own part k (linesUpTo d offers os n) ∙ rw (own-lines n k h)
 
   pub purchases-one : (n k : ℕ) → k < n → purchasesIn k (linesUpTo d offers os n) ≡ purchasesIn k (closedAt d offers os k .lines)
   purchases-one n k h = purchases-own k (linesUpTo d offers os n) ∙ rw (own-lines n k h)

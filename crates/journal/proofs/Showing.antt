@@ -17,7 +17,6 @@ use Rattle.netting.specs.Accounts.{balance}
 use Rattle.ledger.specs.declared.Parts.{Parts}
 use Rattle.ledger.specs.Ledger.{obligationAt, fetched}
 use Rattle.ledger.proofs.Valid.{below-found}
-use Rattle.ledger.proofs.Keeping.{parts-whole}
 use Rattle.refusals.specs.Refusals.{refuse, answer, noMember}
 use Rattle.refusals.proofs.Refusals.{pass, all-passed, done-by}
 use Rattle.refusals.proofs.Named.{found-done}
@@ -27,36 +26,28 @@ use Rattle.book.specs.declared.Balance.{Balance}
 use Rattle.book.specs.declared.Looked.{Looked}
 use Rattle.book.specs.Reading.{status, account, statusRefused, statusDone, accountRefused, isLate, LooksAt, Looks}
 use Rattle.journal.specs.Calls.{Opening, Event}
-use Rattle.journal.specs.Effects.{Deal}
-use Rattle.journal.specs.Sums.{dealIn}
+use Rattle.journal.specs.Facts.{Instructed}
+use Rattle.journal.specs.Sums.{instructedIn}
 use Rattle.journal.specs.Promise.{StatusShows, AccountShows, IsLate, LateShown, LookShows}
-use Rattle.journal.proofs.Moves.{dealAt, heldParts, held, Agrees, outstanding-is}
+use Rattle.journal.proofs.Moves.{instructedAt, heldParts, held, Agrees, parts-are, sum-is, outstanding-is}
 use Rattle.journal.proofs.Demand3.{StatusCalled, AccountCalled, LookCalled}
-use Rattle.journal.proofs.Demand3.Ran.{cancelled, delivered}
 
 module _ (o : Opening) (b : Book) (es : List Event) (g : Agrees o b es) where
-  pub status-shows : (n : ℕ) (i : Deal) → dealIn n es ≡ some i → (t : Shown) → t ≡ status b n → StatusShows o es n i t
+  pub status-shows : (n : ℕ) (i : Instructed) → instructedIn n es ≡ some i → (t : Shown) → t ≡ status b n → StatusShows o es n i t
   unfolding status
   status-shows n i e t q =
-      let h = held b n i (sym (g .deals n) ∙ e) in
+      let h = held b n i (sym (g .instructed n) ∙ e) in
       let there : ltb n (b .ledger .count) ≡ true = lt-ltb n (b .ledger .count) (h .below) in
       let p = obligationAt (b .ledger) n in
       let parts : heldParts b n ≡ p .parts = rw there in
-      let shown : t ≡ record { answer = 0; quantity = p .quantity; parts = p .parts; book = b } =
+      let shown : t ≡ record { answer = 0; quantity = p .deal .quantity; parts = p .parts; book = b } =
       q ∙ sym (found-done [] (λ o. []) (statusDone b) (statusRefused b) refl all-passed (fetched (b .ledger) n) p (below-found (b .ledger) n (h .below)) all-passed) in
-      let dl = g .delivered n ∙ ap (λ (x : Parts). x .delivered) parts in
-      let bo = g .bought-in n ∙ ap (λ (x : Parts). x .«bought_in») parts in
-      let co = g .compensated n ∙ ap (λ (x : Parts). x .compensated) parts in
-      let ca = g .cancelled n ∙ ap (λ (x : Parts). x .cancelled) parts in
-      let qu = ap (λ (d : Deal). d .quantity) (h .same) in
+      let qu = ap (λ (d : Instructed). d .quantity) (h .same) in
       rw shown (record {
         accepted = refl;
         quantity = qu;
-        delivered = sym dl;
-        bought-in = sym bo;
-        compensated = sym co;
-        cancelled = sym ca;
-        whole = omega (arith, dl, bo, co, ca, qu, parts-whole p (g .valid .ledger-valid .sound n (h .below)));
+        part = λ k. sym (parts-are o b es g n (h .below) k);
+        whole = sym (sum-is o b es g n (h .below) ∙ qu);
         last-day = λ z. ap (λ (x : Parts). x .outstanding) (sym parts) ∙ g .last n z .1;
       })
 
@@ -71,42 +62,42 @@ module _ (o : Opening) (b : Book) (es : List Event) (g : Agrees o b es) where
   pub all-shown : (t : ℕ → Balance) → ((m : ℕ) → m < 32 → t m ≡ account b m) → balance (table 32 (λ m. t m .cents)) ≡ pos 0
   all-shown t q =
       ap balance
-      (sym (is-table 32 (λ m. t m .cents) (b .ledger .accounts) (pos 0) (g .valid .ledger-valid .accounts-size)
+      (sym (is-table 32 (λ m. t m .cents) (b .ledger .accounts) (pos 0) (g .valid .ledger .accounts .size)
       (λ m h. sym (g .accounts m) ∙ sym (account-shows m h (t m) (q m h) .cents))))
-      ∙ g .valid .ledger-valid .accounts-even
+      ∙ g .valid .ledger .accounts .even
 
   -- an obligation that is late in the book is late by the events, and the other way round
-  late-told : (m n : ℕ) → n < b .ledger .count → isLate (b .today) m (obligationAt (b .ledger) n) ≡ true →
-      (i : Deal) × (dealIn n es ≡ some i) × IsLate o es m n i
+  late-told : (m n : ℕ) → n < b .ledger .count → isLate (b .day .today) m (obligationAt (b .ledger) n) ≡ true →
+      (i : Instructed) × (instructedIn n es ≡ some i) × IsLate o es m n i
   unfolding isLate
   late-told m n h e =
       let p = obligationAt (b .ledger) n in
-      let deal : dealIn n es ≡ some (dealAt p) = rw (g .deals n, lt-ltb n (b .ledger .count) h) in
+      let instructed : instructedIn n es ≡ some (instructedAt p) = rw (g .instructed n, lt-ltb n (b .ledger .count) h) in
       let first = and-true _ _ e in
       let rest = and-true _ _ (first .1) in (
-        dealAt p,
-        deal,
+        instructedAt p,
+        instructed,
         record {
-          seller = eqb-true (p .seller) m (first .0);
-          past-due = rw (g .today) at (ltb-true (p .day .0) (b .today .0) (rest .0));
-          left = omega (arith, outstanding-is o b es g n (dealAt p) deal, ltb-true 0 (p .parts .outstanding) (rest .1));
+          seller = eqb-true (p .deal .seller) m (first .0);
+          past-due = rw (g .today) at (ltb-true (p .deal .day .0) (b .day .today .0) (rest .0));
+          left = omega (arith, outstanding-is o b es g n (instructedAt p) instructed, ltb-true 0 (p .parts .outstanding) (rest .1));
         },
       )
 
-  told-late : (m n : ℕ) (i : Deal) → dealIn n es ≡ some i → IsLate o es m n i → isLate (b .today) m (obligationAt (b .ledger) n) ≡ true
+  told-late : (m n : ℕ) (i : Instructed) → instructedIn n es ≡ some i → IsLate o es m n i → isLate (b .day .today) m (obligationAt (b .ledger) n) ≡ true
   unfolding isLate
   told-late m n i e l =
-      let h = held b n i (sym (g .deals n) ∙ e) in
+      let h = held b n i (sym (g .instructed n) ∙ e) in
       let p = obligationAt (b .ledger) n in
-      let seller : p .seller ≡ m = ap (λ (d : Deal). d .seller) (h .same) ∙ l .seller in
-      let day : p .day .0 < b .today .0 =
-      omega (arith, l .past-due, ap (λ (d : Day). d .0) (g .today), ap (λ (d : Deal). d .day .0) (h .same)) in
+      let seller : p .deal .seller ≡ m = ap (λ (d : Instructed). d .seller) (h .same) ∙ l .seller in
+      let day : p .deal .day .0 < b .day .today .0 =
+      omega (arith, l .past-due, ap (λ (d : Day). d .0) (g .today), ap (λ (d : Instructed). d .day .0) (h .same)) in
       let left : 0 < p .parts .outstanding = omega (arith, outstanding-is o b es g n i e, l .left) in
-      rw (eq-eqb (p .seller) m seller, lt-ltb (p .day .0) (b .today .0) day, lt-ltb 0 (p .parts .outstanding) left)
+      rw (eq-eqb (p .deal .seller) m seller, lt-ltb (p .deal .day .0) (b .day .today .0) day, lt-ltb 0 (p .parts .outstanding) left)
 
   late-shown : {m k : ℕ} → LooksAt b m k → LateShown o es m k
   late-shown {m} (LooksAt.none f) = LateShown.none-late (λ n i e l.
-      false≢true (sym (f n (held b n i (sym (g .deals n) ∙ e) .below)) ∙ told-late m n i e l))
+      false≢true (sym (f n (held b n i (sym (g .instructed n) ∙ e) .below)) ∙ told-late m n i e l))
   late-shown {m} (LooksAt.some n h e) = let w = late-told m n h e in LateShown.one-late n (w .0) (w .1) (w .2)
 
   pub look-shows : (m : ℕ) → m < 32 → (t : Looked) → Looks b m t → LookShows o es m t

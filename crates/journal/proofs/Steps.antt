@@ -13,114 +13,113 @@ use lib.Seq.{getD-set-same, getD-set-other}
 use borrow.Author.Tests.{ltb-true, ltb-false, lt-ltb, le-ltb, eqb-true, eqb-false, eq-eqb, ne-eqb}
 use Rattle.basics.specs.Choice.{pick}
 use Rattle.basics.specs.Lists.{total}
+use Rattle.ledger.specs.declared.Part.{Part}
 use Rattle.ledger.specs.declared.Parts.{Parts}
 use Rattle.ledger.specs.declared.Obligation.{Obligation}
-use Rattle.ledger.specs.Obligations.{noParts, noObligation}
+use Rattle.ledger.specs.Parts.{partOf, noParts}
+use Rattle.ledger.specs.Obligations.{noObligation}
 use Rattle.ledger.specs.Ledger.{obligationAt, withObligation, withNew}
 use Rattle.ledger.proofs.Keeping.{Later, later-same}
+use Rattle.offers.specs.declared.Offer.{Offer}
+use Rattle.instructions.specs.declared.Leg.{Leg}
 use Rattle.instructions.specs.declared.Legs.{Legs}
 use Rattle.book.specs.declared.Book.{Book}
 use Rattle.book.specs.Book.{withLegs, withLedger, Valid}
-use Rattle.journal.specs.Effects.{Deal, Effect, quiet, onlyInstructs}
+use Rattle.journal.specs.Facts.{LegChange, enters, Instructed, instructedBy, instructs, Facts, onlyLegs, onlyMoves}
 use Rattle.journal.specs.Sums.{orElse, penaltiesOf}
-use Rattle.journal.proofs.Moves.{dealAt, heldDeal, heldParts, Shift, Moves}
+use Rattle.journal.proofs.Moves.{instructedFrom, instructedAt, heldInstructed, heldParts, Shift, Moves}
 
 -- nothing is added to an account by no lines
-no-lines : (m : ℕ) (deals : ℕ → Option Deal) (z : ℤ) → z ≡ z +ℤ penaltiesOf m deals []
+no-lines : (m : ℕ) (instructed : ℕ → Option Instructed) (z : ℤ) → z ≡ z +ℤ penaltiesOf m instructed []
 unfolding penaltiesOf
-no-lines m deals z = sym (+ℤ-idr z)
+no-lines m instructed z = sym (+ℤ-idr z)
 
 -- nothing moves between the parts
-pub shift-none : (p : Parts) → Shift p p 0 0 0 0
-shift-none p = record {
-  delivered = sym (zero-add (p .delivered));
-  bought-in = sym (zero-add (p .«bought_in»));
-  compensated = sym (zero-add (p .compensated));
-  cancelled = sym (zero-add (p .cancelled));
-}
+pub shift-none : (p : Parts) → Shift p p (λ k. 0)
+shift-none p k = sym (zero-add (partOf k p))
 
 -- what moves where an obligation is there, and nothing where it is not
-pub shift-held : (t : Bool) (p q : Parts) (dl bu co ca : ℕ) → (t ≡ true → Shift p q dl bu co ca) → (t ≡ false → (dl ≡ 0) × (bu ≡ 0) × (co ≡ 0) × (ca ≡ 0)) →
-    Shift (pick t p noParts) (pick t q noParts) dl bu co ca
-shift-held true p q dl bu co ca f g = f refl
-shift-held false p q dl bu co ca f g = let z = g refl in rw (z .0, z .1, z .2, z .3) (shift-none noParts)
+pub shift-held : (t : Bool) (p q : Parts) (amounts : Part → ℕ) → (t ≡ true → Shift p q amounts) → (t ≡ false → (k : Part) → amounts k ≡ 0) →
+    Shift (pick t p noParts) (pick t q noParts) amounts
+shift-held true p q amounts f g = f refl
+shift-held false p q amounts f g = λ k. rw (g refl k) (shift-none noParts k)
 
 -- ---- other legs and offers: nothing that a journal sums up moves
-pub moves-nothing : (b after : Book) → Valid after → after .closed ≡ b .closed → after .terms ≡ b .terms → after .today ≡ b .today →
-    after .ledger .obligations ≡ b .ledger .obligations → after .ledger .count ≡ b .ledger .count → after .ledger .accounts ≡ b .ledger .accounts → Moves b after quiet
+-- the facts of a call that changes legs or offers, or neither
+abbrev pub plain : LegChange → List Offer → Facts
+plain c xs = record { legs = c; moves = λ k n. 0; wishes = λ n m. false; offers = xs; ends = none; collects = none }
+
+pub moves-nothing : (b after : Book) (c : LegChange) (xs : List Offer) → Valid after → after .setup ≡ b .setup → after .day .today ≡ b .day .today →
+    after .ledger .obligations ≡ b .ledger .obligations → after .ledger .count ≡ b .ledger .count → after .ledger .accounts ≡ b .ledger .accounts →
+    ((n : ℕ) → instructs n c ≡ none) → Moves b after (plain c xs)
 unfolding total
-moves-nothing b after v closed terms today rows count accounts =
+moves-nothing b after c xs v setup today rows count accounts nobody =
     let parts : (n : ℕ) → heldParts after n ≡ heldParts b n = λ n. rw (rows, count) in
     record {
       valid = v;
-      closed = closed;
-      terms = terms;
+      setup = setup;
       today = today;
-      deals = λ n. rw (rows, count);
+      instructed = λ n. rw (nobody n, rows, count);
       parts = λ n. rw (parts n) (shift-none (heldParts b n));
       kept = omega (arith, count);
-      accounts = λ m. ap (λ (xs : List ℤ). getD xs m (pos 0)) accounts ∙ no-lines m (heldDeal b) (getD (b .ledger .accounts) m (pos 0));
+      accounts = λ m. ap (λ (xs : List ℤ). getD xs m (pos 0)) accounts ∙ no-lines m (heldInstructed b) (getD (b .ledger .accounts) m (pos 0));
       less = λ n h. omega (arith, ap (λ (p : Parts). p .outstanding) (parts n));
       last = λ t. absurd (false≢true t);
     }
 
--- ---- one obligation changed: what is delivered or cancelled of it
-abbrev pub onlyParts : (ℕ → ℕ) → (ℕ → ℕ) → Effect
-onlyParts dl cn = record { instructs = λ n. none; delivers = dl; cancels = cn; lines = []; collects = none; turns = false }
-
-module _ (b : Book) (v : Valid b) (n : ℕ) (r : Obligation) (h : n < b .ledger .count) (dl cn : ℕ → ℕ)
-    (l : Later (obligationAt (b .ledger) n) r) (t : Shift (obligationAt (b .ledger) n .parts) (r .parts) (dl n) 0 0 (cn n))
-    (only : (k : ℕ) → (k ≡ n → ⊥) → (dl k ≡ 0) × (cn k ≡ 0)) where
+-- ---- one obligation changed: what of it moves to each part
+module _ (b : Book) (v : Valid b) (n : ℕ) (r : Obligation) (h : n < b .ledger .count) (f : Part → ℕ → ℕ) (w : ℕ → ℕ → Bool)
+    (l : Later (obligationAt (b .ledger) n) r) (t : Shift (obligationAt (b .ledger) n .parts) (r .parts) (λ k. f k n))
+    (only : (m : ℕ) → (m ≡ n → ⊥) → (k : Part) → f k m ≡ 0) where
   abbrev after : Book
   after = withLedger (withObligation n r (b .ledger)) b
 
-  record Each (k : ℕ) (p : Obligation) : Type 0 where
-    later : Later (obligationAt (b .ledger) k) p
-    shift : Shift (obligationAt (b .ledger) k .parts) (p .parts) (dl k) 0 0 (cn k)
+  record Each (m : ℕ) (p : Obligation) : Type 0 where
+    later : Later (obligationAt (b .ledger) m) p
+    shift : Shift (obligationAt (b .ledger) m .parts) (p .parts) (λ k. f k m)
 
-  each : (k : ℕ) → Each k (obligationAt (after .ledger) k)
-  each k = by (eqb k n) refl
+  each : (m : ℕ) → Each m (obligationAt (after .ledger) m)
+  each m = by (eqb m n) refl
     where
       size : n < length (b .ledger .obligations)
-      size = omega (arith, h, v .ledger-valid .few, v .ledger-valid .size)
+      size = omega (arith, h, v .ledger .few, v .ledger .size)
 
-      by : (u : Bool) → eqb k n ≡ u → Each k (obligationAt (after .ledger) k)
+      by : (u : Bool) → eqb m n ≡ u → Each m (obligationAt (after .ledger) m)
       by true e =
-          rw (eqb-true k n e, getD-set-same (b .ledger .obligations) n r noObligation size) (record { later = l; shift = t })
+          rw (eqb-true m n e, getD-set-same (b .ledger .obligations) n r noObligation size) (record { later = l; shift = t })
       by false e =
-          let q = eqb-false k n e in
-          rw (getD-set-other (b .ledger .obligations) n k r noObligation q)
-          (record { later = later-same (obligationAt (b .ledger) k); shift = rw (only k q .0, only k q .1) (shift-none (obligationAt (b .ledger) k .parts)) })
+          let q = eqb-false m n e in
+          rw (getD-set-other (b .ledger .obligations) n m r noObligation q)
+          (record { later = later-same (obligationAt (b .ledger) m); shift = λ k. rw (only m q k) (shift-none (obligationAt (b .ledger) m .parts) k) })
 
-  same-deal : (k : ℕ) → dealAt (obligationAt (after .ledger) k) ≡ dealAt (obligationAt (b .ledger) k)
-  same-deal k =
-      let e = each k .later in
-      λ i. record { seller = e .seller i; buyer = e .buyer i; quantity = e .quantity i; day = e .day i }
+  same-instructed : (m : ℕ) → instructedAt (obligationAt (after .ledger) m) ≡ instructedAt (obligationAt (b .ledger) m)
+  same-instructed m =
+      let e = each m .later in
+      ap instructedFrom (e .deal)
 
-  none-there : (k : ℕ) → ltb k (b .ledger .count) ≡ false → (dl k ≡ 0) × (_≡_ {A = ℕ} 0 0) × (_≡_ {A = ℕ} 0 0) × (cn k ≡ 0)
-  none-there k e = let q = only k (λ z. apart z (ltb-false k (b .ledger .count) e)) in (q .0, refl, refl, q .1)
+  none-there : (m : ℕ) → ltb m (b .ledger .count) ≡ false → (k : Part) → f k m ≡ 0
+  none-there m e = only m (λ z. apart z (ltb-false m (b .ledger .count) e))
     where
-      apart : k ≡ n → b .ledger .count ≤ k → ⊥
+      apart : m ≡ n → b .ledger .count ≤ m → ⊥
       apart z w = omega arith
 
-  pub moves-one : Valid after → Moves b after (onlyParts dl cn)
+  pub moves-one : Valid after → Moves b after (onlyMoves f w)
   unfolding total
-  moves-one w = record {
-    valid = w;
-    closed = refl;
-    terms = refl;
+  moves-one v' = record {
+    valid = v';
+    setup = refl;
     today = refl;
-    deals = λ k. ap (λ (d : Deal). pick (ltb k (b .ledger .count)) (some d) none) (same-deal k);
-    parts = λ k. shift-held (ltb k (b .ledger .count)) _ _ (dl k) 0 0 (cn k) (λ e. each k .shift) (none-there k);
+    instructed = λ m. ap (λ (d : Instructed). pick (ltb m (b .ledger .count)) (some d) none) (same-instructed m);
+    parts = λ m k. shift-held (ltb m (b .ledger .count)) _ _ (λ j. f j m) (λ e. each m .shift) (none-there m) k ∙ omega arith;
     kept = omega arith;
-    accounts = λ m. no-lines m (heldDeal b) (getD (b .ledger .accounts) m (pos 0));
-    less = λ k lt. rw (lt-ltb k (b .ledger .count) lt) (each k .later .less);
+    accounts = λ m. no-lines m (heldInstructed b) (getD (b .ledger .accounts) m (pos 0));
+    less = λ m lt. rw (lt-ltb m (b .ledger .count) lt) (each m .later .less);
     last = λ t. absurd (false≢true t);
   }
 
 -- ---- one obligation more
 module _ (b : Book) (v : Valid b) (legs : Legs) (r : Obligation) (room : b .ledger .count < 64)
-    (fresh : Shift noParts (r .parts) 0 0 0 0) where
+    (fresh : Shift noParts (r .parts) (λ k. 0)) (leg : ℕ) (new : Leg) (same : instructedAt r ≡ instructedBy new) where
   abbrev more : Book
   more = withLegs legs (withLedger (withNew r (b .ledger)) b)
 
@@ -128,18 +127,18 @@ module _ (b : Book) (v : Valid b) (legs : Legs) (r : Obligation) (room : b .ledg
   count = b .ledger .count
 
   size-more : count < length (b .ledger .obligations)
-  size-more = omega (arith, room, v .ledger-valid .size)
+  size-more = omega (arith, room, v .ledger .size)
 
   -- by whether a number is the new one, one before it or one behind it
-  abbrev New : ℕ → Option Deal → Type 0
-  New k deal =
-      (heldDeal more k ≡ orElse deal (heldDeal b k)) × (Shift (heldParts b k) (heldParts more k) 0 0 0 0)
+  abbrev New : ℕ → Option Instructed → Type 0
+  New k instructed =
+      (heldInstructed more k ≡ orElse instructed (heldInstructed b k)) × (Shift (heldParts b k) (heldParts more k) (λ j. 0))
       × (k < count → heldParts more k .outstanding ≤ heldParts b k .outstanding)
 
-  new-at : (k : ℕ) → New k (pick (eqb (count + 1) (k + 1)) (some (dealAt r)) none)
+  new-at : (k : ℕ) → New k (pick (eqb (count + 1) (k + 1)) (some (instructedAt r)) none)
   new-at k = by (eqb k count) (ltb k count) refl refl
     where
-      by : (u w : Bool) → eqb k count ≡ u → ltb k count ≡ w → New k (pick (eqb (count + 1) (k + 1)) (some (dealAt r)) none)
+      by : (u w : Bool) → eqb k count ≡ u → ltb k count ≡ w → New k (pick (eqb (count + 1) (k + 1)) (some (instructedAt r)) none)
       by true w e f =
           let q = eqb-true k count e in
           let a : eqb (count + 1) (k + 1) ≡ true = eq-eqb (count + 1) (k + 1) (omega arith) in
@@ -164,17 +163,16 @@ module _ (b : Book) (v : Valid b) (legs : Legs) (r : Obligation) (room : b .ledg
           above : count ≤ k → (k ≡ count → ⊥) → count + 1 ≤ k
           above x y = omega arith
 
-  pub moves-more : Valid more → Moves b more (onlyInstructs (λ k. pick (eqb (count + 1) (k + 1)) (some (dealAt r)) none))
+  pub moves-more : Valid more → Moves b more (onlyLegs (enters leg (count + 1) new))
   unfolding total
   moves-more w = record {
     valid = w;
-    closed = refl;
-    terms = refl;
+    setup = refl;
     today = refl;
-    deals = λ k. new-at k .0;
+    instructed = λ k. rw (← same) (new-at k .0);
     parts = λ k. new-at k .1;
     kept = omega arith;
-    accounts = λ m. no-lines m (heldDeal b) (getD (b .ledger .accounts) m (pos 0));
+    accounts = λ m. no-lines m (heldInstructed b) (getD (b .ledger .accounts) m (pos 0));
     less = λ k lt. new-at k .2 lt;
     last = λ t. absurd (false≢true t);
   }

@@ -1,96 +1,51 @@
 -- The promise on whole journals (docs/RULES.md, chapter Promises, G3), proved: `demand-3` at the end.
 use Prim.Native.Nat.{ℕ}
-use mathlib.Core.Path.{refl, ap, ap₂, subst⁻¹}
+use mathlib.Core.Path.{_≡_, refl, ap, ap₂, subst⁻¹}
 use mathlib.Core.List.{List, [], _∷_}
 use lib.ListN.{length}
 use denote.Ref.{RefT, now}
-use Rattle.refusals.specs.Refusals.{answer}
-use Rattle.book.specs.declared.Entered.{Entered}
-use Rattle.book.specs.declared.Done.{Done}
-use Rattle.book.specs.declared.Cancelled.{Cancelled}
-use Rattle.book.specs.declared.Delivered.{Delivered}
-use Rattle.book.specs.declared.Closed.{Closed}
-use Rattle.book.specs.Open as rules-open
-use Rattle.book.specs.Instructing as rules
-use Rattle.book.specs.Buying as rules-buying
-use Rattle.book.specs.Closing as rules-closing
-use Rattle.book.specs.Month as rules-month
-use Rattle.book.specs.Reading.{status, account}
-use Rattle.book.proofs.Kept.{enter-valid, withdraw-valid, cancel-valid, deliver-valid, offer-valid}
-use Rattle.book.proofs.Ended.{close-valid}
-use Rattle.book.proofs.Paid.{month-valid}
-use Rattle.book.proofs.Book.open.Met.{met as open-met}
-use Rattle.book.proofs.Book.enter.Met.{met as enter-met}
-use Rattle.book.proofs.Book.withdraw.Met.{met as withdraw-met}
-use Rattle.book.proofs.Book.cancel.Met.{met as cancel-met}
-use Rattle.book.proofs.Book.deliver.Met.{met as deliver-met}
-use Rattle.book.proofs.Book.offer.Met.{met as offer-met}
-use Rattle.book.proofs.Book.close.Met.{met as close-met}
-use Rattle.book.proofs.Book.month.Met.{met as month-met}
-use Rattle.book.proofs.Book.status.Met.{met as status-met}
-use Rattle.book.proofs.Book.account.Met.{met as account-met}
-use Rattle.book.proofs.Book.look.Met.{met as look-met}
-use Rattle.book.proofs.Book.open.Reads as open-reads
-use Rattle.book.proofs.Book.enter.Reads as enter-reads
-use Rattle.book.proofs.Book.withdraw.Reads as withdraw-reads
-use Rattle.book.proofs.Book.cancel.Reads as cancel-reads
-use Rattle.book.proofs.Book.deliver.Reads as deliver-reads
-use Rattle.book.proofs.Book.offer.Reads as offer-reads
-use Rattle.book.proofs.Book.close.Reads as close-reads
-use Rattle.book.proofs.Book.month.Reads as month-reads
-use Rattle.book.proofs.Book.status.Reads as status-reads
-use Rattle.book.proofs.Book.account.Reads as account-reads
-use Rattle.book.proofs.Book.look.Reads as look-reads
-use Rattle.book.proofs.Book.open.Symbol as open-code
-use Rattle.book.proofs.Book.enter.Symbol as enter-code
-use Rattle.book.proofs.Book.withdraw.Symbol as withdraw-code
-use Rattle.book.proofs.Book.cancel.Symbol as cancel-code
-use Rattle.book.proofs.Book.deliver.Symbol as deliver-code
-use Rattle.book.proofs.Book.offer.Symbol as offer-code
-use Rattle.book.proofs.Book.close.Symbol as close-code
-use Rattle.book.proofs.Book.month.Symbol as month-code
-use Rattle.book.proofs.Book.status.Symbol as status-code
-use Rattle.book.proofs.Book.account.Symbol as account-code
-use Rattle.book.proofs.Book.look.Symbol as look-code
-use Rattle.journal.specs.Calls.{Opening, Call, enter, withdraw, cancel, deliver, offer, close, month, Run}
-use Rattle.journal.specs.Played.{played}
+use Rattle.book.specs.declared.Book.{Book}
+use Rattle.book.specs as rules
+use Rattle.book.specs.Book.{Valid}
+use Rattle.book.proofs as laws
+use Rattle.book.proofs.Book as code
+use Rattle.journal.specs.Calls.{Opening, Call, Run}
+use Rattle.journal.specs.Played.{Outcome, ofDone, ofEntered, ofCancelled, ofDelivered, ofClosed, outcome, after, played}
 use Rattle.journal.proofs.Model.{Known, begun-known, step-known, played-known}
 use Rattle.journal.proofs.CapPrices.{known-capped}
 use Rattle.journal.proofs.BuyIns.{known-bought}
 use Rattle.journal.proofs.Showing.{status-shows, account-shows, all-shown, look-shows, status-learnt, account-learnt, look-learnt}
-use Rattle.journal.proofs.Demand3.{after, Ran, Promise, Demand3}
-use Rattle.journal.proofs.Demand3.Ran.{opened, entered, withdrew, cancelled, delivered, offered, closed, settled}
+use Rattle.journal.proofs.Demand3.{Called, Ran, May, Promise, Demand3}
 
--- ---- by its contract, a call does what a step of the model does
+-- ---- by its contract, a call answers what the rules give
+called-is : {b : Book} {c : Call} {r : Outcome} → Called b c r → r ≡ outcome b c
+called-is (Called.entered member other side q a j r x h) = ap ofEntered (h .0)
+called-is (Called.withdrew leg member r x h) = ap ofDone (h .0)
+called-is (Called.cancelled n member r x h) = ap ofCancelled (h .0)
+called-is (Called.delivered n q r x h) = ap ofDelivered (h .0)
+called-is (Called.offered n supplier q price r x h) = ap ofDone (h .0)
+called-is (Called.closed κs price rate lines r x h) = ap₂ ofClosed (h .0) (h .1 .0)
+called-is (Called.settled κs collected payouts r x h) =
+    λ i. record { answer = h .0 i .answer; results = []; words = h .1 .0 i; kept = h .1 .1 .1 i; book = h .0 i .book }
+
 pub known : {s : Run} → Ran s → Known s
-known (opened first κs ds terms r x h) =
+known (Ran.opened first κs ds terms r x h) =
     let o : Opening = record { first = first; closed = now ds; terms = terms } in
     subst⁻¹ Known
     (λ i. record { opening = o; began = record { answer = h .0 i .answer; closed = h .1 .1 i }; book = h .0 i .book; past = [] })
     (begun-known o)
-known (entered {s} ran member other side q a j r x h) =
-    let c : Call = enter member other side q a j in
-    subst⁻¹ Known (ap (λ (y : Entered). after s c (y .answer) (y .leg ∷ y .obligation ∷ []) [] [] (y .book)) (h .0)) (step-known s c (known ran))
-known (withdrew {s} ran leg member r x h) =
-    let c : Call = withdraw leg member in
-    subst⁻¹ Known (ap (λ (y : Done). after s c (y .answer) [] [] [] (y .book)) (h .0)) (step-known s c (known ran))
-known (cancelled {s} ran n member r x h) =
-    let c : Call = cancel n member in
-    subst⁻¹ Known (ap (λ (y : Cancelled). after s c (y .answer) (y .moved ∷ []) [] [] (y .book)) (h .0)) (step-known s c (known ran))
-known (delivered {s} ran n q r x h) =
-    let c : Call = deliver n q in
-    subst⁻¹ Known (ap (λ (y : Delivered). after s c (y .answer) (y .cash ∷ []) [] [] (y .book)) (h .0)) (step-known s c (known ran))
-known (offered {s} ran n supplier q price r x h) =
-    let c : Call = offer n supplier q price in
-    subst⁻¹ Known (ap (λ (y : Done). after s c (y .answer) [] [] [] (y .book)) (h .0)) (step-known s c (known ran))
-known (closed {s} ran κs price rate lines r x h) =
-    let c : Call = close price rate (now lines) in
-    subst⁻¹ Known (ap₂ (λ (y : Closed) (ws : List ℕ). after s c (y .answer) (y .count ∷ []) ws [] (y .book)) (h .0) (h .1 .0)) (step-known s c (known ran))
-known (settled {s} ran κs collected payouts r x h) =
-    let c : Call = month (now collected) (now payouts) in
-    subst⁻¹ Known (λ i. after s c (h .0 i .answer) [] (h .1 .0 i) (h .1 .1 .1 i) (h .0 i .book)) (step-known s c (known ran))
+known (Ran.called {s} {c} {r} ran h) = subst⁻¹ Known (ap (after s c) (called-is h)) (step-known s c (known ran))
 
 -- ---- what is promised of every run
+may : (b : Book) → Valid b → (c : Call) → May b c
+may b v (Call.enter member other side q a j) = v
+may b v (Call.withdraw leg member) = v
+may b v (Call.cancel n member) = v
+may b v (Call.deliver n q) = v
+may b v (Call.offer n supplier q price) = v
+may b v (Call.close price rate lines) = λ κs ls. v
+may b v (Call.month collected payouts) = λ κs cs ps. v
+
 promised : (s : Run) → Ran s → Promise s
 promised s ran =
     let k = known ran in
@@ -105,13 +60,7 @@ promised s ran =
       months = k .months;
       buy-ins = known-bought s k;
       cap-prices = known-capped s k;
-      may-enter = λ member other side q a j. v;
-      may-withdraw = λ leg member. v;
-      may-cancel = λ n member. v;
-      may-deliver = λ n q. v;
-      may-offer = λ n supplier q price. v;
-      may-close = λ κs price rate lines. v;
-      may-month = λ κs collected payouts. v;
+      may = may (s .book) v;
       may-status = λ n. v;
       may-account = λ m. v;
       may-look = λ m. v;
@@ -122,36 +71,27 @@ promised s ran =
 abbrev lent : List ℕ → RefT (List ℕ)
 lent ws = record { ptr = (0, 0); name = 0; now = ws }
 
+-- every call on a valid book can be made
+calls : (b : Book) → Valid b → (c : Call) → Called b c (outcome b c)
+calls b v (Call.enter member other side q a j) =
+    Called.entered member other side q a j _ (b, (member, (other, (side, (q, (a, (j, tt))))))) (refl, laws.Kept.enter-valid b v member other side q a j)
+calls b v (Call.withdraw leg member) = Called.withdrew leg member _ (b, (leg, (member, tt))) (refl, laws.Kept.withdraw-valid b v leg member)
+calls b v (Call.cancel n member) = Called.cancelled n member _ (b, (n, (member, tt))) (refl, laws.Kept.cancel-valid b v n member)
+calls b v (Call.deliver n q) = Called.delivered n q _ (b, (n, (q, tt))) (refl, laws.Kept.deliver-valid b v n q)
+calls b v (Call.offer n supplier q price) =
+    Called.offered n supplier q price _ (b, (n, (supplier, (q, (price, tt))))) (refl, laws.Kept.offer-valid b v n supplier q price)
+calls b v (Call.close price rate lines) =
+    Called.closed ([], tt) price rate (lent lines) _ (b, (price, (rate, (lent (rules.Close.closeWords b price rate lines), tt))))
+    (refl, (refl, laws.Ended.close-valid b v price rate lines))
+calls b v (Call.month collected payouts) =
+    Called.settled ([], ([], tt)) (lent collected) (lent payouts) _
+    (b, (lent collected, (lent (rules.Month.monthWords b collected payouts), tt))) (refl, (refl, (laws.Paid.month-valid b v collected (length payouts), refl)))
+
 ran : (o : Opening) (cs : List Call) → Ran (played o cs)
-ran o [] = opened (o .first) ([], tt) (lent (o .closed)) (o .terms) (rules-open.opened (o .first) (o .closed) (o .terms))
+ran o [] =
+    Ran.opened (o .first) ([], tt) (lent (o .closed)) (o .terms) (rules.Open.opened (o .first) (o .closed) (o .terms))
     (o .first, (lent (o .closed), (o .terms, tt))) (refl, (begun-known o .agrees .valid, refl))
-ran o (enter member other side q a j ∷ cs) =
-    let b = played o cs .book in
-    entered (ran o cs) member other side q a j (rules.enter b member other side q a j)
-    (b, (member, (other, (side, (q, (a, (j, tt))))))) (refl, enter-valid b (played-known o cs .agrees .valid) member other side q a j)
-ran o (withdraw leg member ∷ cs) =
-    let b = played o cs .book in
-    withdrew (ran o cs) leg member (rules.withdraw b leg member) (b, (leg, (member, tt))) (refl, withdraw-valid b (played-known o cs .agrees .valid) leg member)
-ran o (cancel n member ∷ cs) =
-    let b = played o cs .book in
-    cancelled (ran o cs) n member (rules.cancel b n member) (b, (n, (member, tt))) (refl, cancel-valid b (played-known o cs .agrees .valid) n member)
-ran o (deliver n q ∷ cs) =
-    let b = played o cs .book in
-    delivered (ran o cs) n q (rules.deliver b n q) (b, (n, (q, tt))) (refl, deliver-valid b (played-known o cs .agrees .valid) n q)
-ran o (offer n supplier q price ∷ cs) =
-    let b = played o cs .book in
-    offered (ran o cs) n supplier q price (rules-buying.offer b n supplier q price)
-    (b, (n, (supplier, (q, (price, tt))))) (refl, offer-valid b (played-known o cs .agrees .valid) n supplier q price)
-ran o (close price rate lines ∷ cs) =
-    let b = played o cs .book in
-    let v = played-known o cs .agrees .valid in
-    closed (ran o cs) ([], tt) price rate (lent lines) (rules-closing.close b price rate (length lines))
-    (b, (price, (rate, (lent (rules-closing.closeWords b price rate lines), tt)))) (refl, (refl, close-valid b v price rate lines))
-ran o (month collected payouts ∷ cs) =
-    let b = played o cs .book in
-    let v = played-known o cs .agrees .valid in
-    settled (ran o cs) ([], ([], tt)) (lent collected) (lent payouts) (rules-month.month b collected (length payouts))
-    (b, (lent collected, (lent (rules-month.monthWords b collected payouts), tt))) (refl, (refl, (month-valid b v collected (length payouts), refl)))
+ran o (c ∷ cs) = Ran.called (ran o cs) (calls (played o cs .book) (played-known o cs .agrees .valid) c)
 
 -- G3, Promises
 pub demand-3 : {M : Type 1} → Demand3 M
@@ -159,26 +99,15 @@ demand-3 = record {
   whole = promised;
   each = ran;
   may-open = λ first κs closed terms. tt;
-  open-met = open-met;
-  enter-met = enter-met;
-  withdraw-met = withdraw-met;
-  cancel-met = cancel-met;
-  deliver-met = deliver-met;
-  offer-met = offer-met;
-  close-met = close-met;
-  month-met = month-met;
-  status-met = status-met;
-  account-met = account-met;
-  look-met = look-met;
-  open-gives = λ w γ k same. open-reads.known w γ k open-code.routine same (open-met (w .𝓤) (w .H) (w .𝓜) (w .𝓖) (w .𝓡));
-  enter-gives = λ w γ k same. enter-reads.known w γ k enter-code.routine same (enter-met (w .𝓤) (w .H) (w .𝓜) (w .𝓖) (w .𝓡));
-  withdraw-gives = λ w γ k same. withdraw-reads.known w γ k withdraw-code.routine same (withdraw-met (w .𝓤) (w .H) (w .𝓜) (w .𝓖) (w .𝓡));
-  cancel-gives = λ w γ k same. cancel-reads.known w γ k cancel-code.routine same (cancel-met (w .𝓤) (w .H) (w .𝓜) (w .𝓖) (w .𝓡));
-  deliver-gives = λ w γ k same. deliver-reads.known w γ k deliver-code.routine same (deliver-met (w .𝓤) (w .H) (w .𝓜) (w .𝓖) (w .𝓡));
-  offer-gives = λ w γ k same. offer-reads.known w γ k offer-code.routine same (offer-met (w .𝓤) (w .H) (w .𝓜) (w .𝓖) (w .𝓡));
-  close-gives = λ w γ k same. close-reads.known w γ k close-code.routine same (close-met (w .𝓤) (w .H) (w .𝓜) (w .𝓖) (w .𝓡));
-  month-gives = λ w γ k same. month-reads.known w γ k month-code.routine same (month-met (w .𝓤) (w .H) (w .𝓜) (w .𝓖) (w .𝓡));
-  status-gives = λ w γ k same. status-reads.known w γ k status-code.routine same (status-met (w .𝓤) (w .H) (w .𝓜) (w .𝓖) (w .𝓡));
-  account-gives = λ w γ k same. account-reads.known w γ k account-code.routine same (account-met (w .𝓤) (w .H) (w .𝓜) (w .𝓖) (w .𝓡));
-  look-gives = λ w γ k same. look-reads.known w γ k look-code.routine same (look-met (w .𝓤) (w .H) (w .𝓜) (w .𝓖) (w .𝓡));
+  open-code = record { met = code.«open».Met.met; gives = λ w γ k same. code.«open».Reads.known w γ k code.«open».Symbol.routine same (code.«open».Met.met (w .𝓤) (w .H) (w .𝓜) (w .𝓖) (w .𝓡)) };
+  enter-code = record { met = code.enter.Met.met; gives = λ w γ k same. code.enter.Reads.known w γ k code.enter.Symbol.routine same (code.enter.Met.met (w .𝓤) (w .H) (w .𝓜) (w .𝓖) (w .𝓡)) };
+  withdraw-code = record { met = code.withdraw.Met.met; gives = λ w γ k same. code.withdraw.Reads.known w γ k code.withdraw.Symbol.routine same (code.withdraw.Met.met (w .𝓤) (w .H) (w .𝓜) (w .𝓖) (w .𝓡)) };
+  cancel-code = record { met = code.cancel.Met.met; gives = λ w γ k same. code.cancel.Reads.known w γ k code.cancel.Symbol.routine same (code.cancel.Met.met (w .𝓤) (w .H) (w .𝓜) (w .𝓖) (w .𝓡)) };
+  deliver-code = record { met = code.deliver.Met.met; gives = λ w γ k same. code.deliver.Reads.known w γ k code.deliver.Symbol.routine same (code.deliver.Met.met (w .𝓤) (w .H) (w .𝓜) (w .𝓖) (w .𝓡)) };
+  offer-code = record { met = code.offer.Met.met; gives = λ w γ k same. code.offer.Reads.known w γ k code.offer.Symbol.routine same (code.offer.Met.met (w .𝓤) (w .H) (w .𝓜) (w .𝓖) (w .𝓡)) };
+  close-code = record { met = code.close.Met.met; gives = λ w γ k same. code.close.Reads.known w γ k code.close.Symbol.routine same (code.close.Met.met (w .𝓤) (w .H) (w .𝓜) (w .𝓖) (w .𝓡)) };
+  month-code = record { met = code.month.Met.met; gives = λ w γ k same. code.month.Reads.known w γ k code.month.Symbol.routine same (code.month.Met.met (w .𝓤) (w .H) (w .𝓜) (w .𝓖) (w .𝓡)) };
+  status-code = record { met = code.status.Met.met; gives = λ w γ k same. code.status.Reads.known w γ k code.status.Symbol.routine same (code.status.Met.met (w .𝓤) (w .H) (w .𝓜) (w .𝓖) (w .𝓡)) };
+  account-code = record { met = code.account.Met.met; gives = λ w γ k same. code.account.Reads.known w γ k code.account.Symbol.routine same (code.account.Met.met (w .𝓤) (w .H) (w .𝓜) (w .𝓖) (w .𝓡)) };
+  look-code = record { met = code.look.Met.met; gives = λ w γ k same. code.look.Reads.known w γ k code.look.Symbol.routine same (code.look.Met.met (w .𝓤) (w .H) (w .𝓜) (w .𝓖) (w .𝓡)) };
 }

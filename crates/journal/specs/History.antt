@@ -17,62 +17,18 @@ use Rattle.instructions.specs.declared.Fit.{Fit}
 use Rattle.instructions.specs.declared.Fit.the-variants.{With, Nobody}
 use Rattle.instructions.specs.Legs.{noLeg, inState}
 use Rattle.instructions.specs.Match.{firstFit}
-use Rattle.book.specs.Instructing.{newLeg}
-use Rattle.journal.specs.Calls.{Opening, Call, enter, withdraw, cancel, deliver, offer, close, month, Event}
-use Rattle.journal.specs.Effects.{Deal, accepted, effect}
-use Rattle.journal.specs.Sums.{closedIn, termsIn, todayIn, orElse, dealIn, isMonth}
-
--- ---- what one event leaves for later
--- E2 and T1, Enter and Withdraw: what a call does to the legs. It enters one, and then the two numbers are those that it
--- returned, or it withdraws one, or it does neither.
-pub data LegChange : Type 0 where
-  enters : (leg obligation : ℕ) → Leg → LegChange
-  withdraws : ℕ → LegChange
-  neither : LegChange
-
--- what an event leaves beside what it adds to the sums: what it does to the legs, whether it is member m's wish to cancel
--- obligation n, the offers that it enters, and its price if it is a Close
-pub record Trace : Type 0 where
-  pub legs : LegChange
-  pub wishes : ℕ → ℕ → Bool
-  pub offers : List Offer
-  pub price : ℕ
-
--- the trace of a call that leaves nothing
-abbrev pub noTrace : Trace
-noTrace = record { legs = neither; wishes = λ n m. false; offers = []; price = 0 }
-
--- the trace of a call that only changes the legs
-abbrev pub onlyLegs : LegChange → Trace
-onlyLegs c = record { legs = c; wishes = λ n m. false; offers = []; price = 0 }
-
--- what an accepted call leaves, by its results
-abbrev pub traceOf : Call → List ℕ → Trace
-traceOf (enter member other side q a j) rs = onlyLegs (enters (getD rs 0 0) (getD rs 1 0) (newLeg member other side q a j))
-traceOf (withdraw leg member) rs = onlyLegs (withdraws leg)
-traceOf (cancel k member) rs = record { legs = neither; wishes = λ n m. eqb k n && eqb member m; offers = []; price = 0 }
-traceOf (deliver k q) rs = noTrace
-traceOf (offer k supplier q price) rs = record {
-  legs = neither;
-  wishes = λ n m. false;
-  offers = record { obligation = k; supplier = supplier; quantity = q; price = price } ∷ [];
-  price = 0;
-}
-traceOf (close price rate lines) rs = record { legs = neither; wishes = λ n m. false; offers = []; price = price }
-traceOf (month collected payouts) rs = noTrace
-
--- A5, Refusals: what an event leaves; a refused call leaves nothing
-abbrev pub trace : Event → Trace
-trace e = pick (accepted e) (traceOf (e .call) (e .results)) noTrace
+use Rattle.journal.specs.Calls.{Opening, Event}
+use Rattle.journal.specs.Facts.{LegChange, enters, withdraws, neither, Instructed, isEnd, priceOf, facts}
+use Rattle.journal.specs.Sums.{closedIn, termsIn, todayIn, orElse, instructedIn, isMonth}
 
 -- ---- Close
 -- R21, Refusals: whether a Close was accepted since the start or since the last accepted Month
 unfoldable pub closeSinceIn : List Event → Bool
 closeSinceIn [] = false
-closeSinceIn (e ∷ es) = pick (effect e .turns) true (pick (isMonth (effect e .collects)) false (closeSinceIn es))
+closeSinceIn (e ∷ es) = pick (isEnd (facts e .ends)) true (pick (isMonth (facts e .collects)) false (closeSinceIn es))
 
--- B8, Buy-in: whether today is a day on which the age of a deal is grace
-abbrev pub isGraceDay : Opening → Day → Option Deal → Bool
+-- B8, Buy-in: whether today is a day on which the age of what was instructed is grace
+abbrev pub isGraceDay : Opening → Day → Option Instructed → Bool
 isGraceDay o today none = false
 isGraceDay o today (some i) = eqb (ageAt (listed (closedIn o)) (i .day) today .0) (termsIn o .grace .0)
 
@@ -81,23 +37,23 @@ isGraceDay o today (some i) = eqb (ageAt (listed (closedIn o)) (i .day) today .0
 unfoldable pub gracePriceIn : Opening → ℕ → List Event → ℕ
 gracePriceIn o n [] = 0
 gracePriceIn o n (e ∷ es) =
-    pick (effect e .turns && isGraceDay o (todayIn o es) (dealIn n es)) (trace e .price) (gracePriceIn o n es)
+    pick (isEnd (facts e .ends) && isGraceDay o (todayIn o es) (instructedIn n es)) (priceOf (facts e .ends)) (gracePriceIn o n es)
 
 -- B9, Buy-in: whether a Close was accepted at age = grace of an obligation
 unfoldable pub graceClosedIn : Opening → ℕ → List Event → Bool
 graceClosedIn o n [] = false
-graceClosedIn o n (e ∷ es) = graceClosedIn o n es || (effect e .turns && isGraceDay o (todayIn o es) (dealIn n es))
+graceClosedIn o n (e ∷ es) = graceClosedIn o n es || (isEnd (facts e .ends) && isGraceDay o (todayIn o es) (instructedIn n es))
 
 -- B5, Buy-in: the offers since the last accepted Close, the latest first. An accepted Close ends them.
 unfoldable pub offersIn : List Event → List Offer
 offersIn [] = []
-offersIn (e ∷ es) = pick (effect e .turns) [] (trace e .offers ++ offersIn es)
+offersIn (e ∷ es) = pick (isEnd (facts e .ends)) [] (facts e .offers ++ offersIn es)
 
 -- ---- Cancel
 -- K1 and K4, Cancel: whether an accepted Cancel of obligation n by member m is among the events
 unfoldable pub wishedIn : ℕ → ℕ → List Event → Bool
 wishedIn n m [] = false
-wishedIn n m (e ∷ es) = trace e .wishes n m || wishedIn n m es
+wishedIn n m (e ∷ es) = facts e .wishes n m || wishedIn n m es
 
 -- ---- Enter and Withdraw
 -- these legs with leg k in another state
@@ -121,7 +77,7 @@ legsAfter neither ls = ls
 -- E2 and E3, Enter: the legs entered so far, numbered from 0, each of them waiting, withdrawn or matched
 unfoldable pub legsIn : List Event → List Leg
 legsIn [] = []
-legsIn (e ∷ es) = legsAfter (trace e .legs) (legsIn es)
+legsIn (e ∷ es) = legsAfter (facts e .legs) (legsIn es)
 
 -- E11, Enter: the leg that a change enters under number n
 abbrev pub enteredAs : ℕ → LegChange → Option Leg
@@ -132,7 +88,7 @@ enteredAs n neither = none
 -- E11, Enter: leg n as it was instructed, if an accepted Enter returned its number
 unfoldable pub legIn : ℕ → List Event → Option Leg
 legIn n [] = none
-legIn n (e ∷ es) = orElse (enteredAs n (trace e .legs)) (legIn n es)
+legIn n (e ∷ es) = orElse (enteredAs n (facts e .legs)) (legIn n es)
 
 -- whether leg n is the leg that fits
 abbrev pub isFit : ℕ → Fit → Bool
@@ -151,4 +107,4 @@ waitsAfter n neither ls waited = waited
 -- Withdraw named it and no accepted Enter matched it
 unfoldable pub waitingIn : ℕ → List Event → Bool
 waitingIn n [] = false
-waitingIn n (e ∷ es) = waitsAfter n (trace e .legs) (legsIn es) (waitingIn n es)
+waitingIn n (e ∷ es) = waitsAfter n (facts e .legs) (legsIn es) (waitingIn n es)

@@ -3,12 +3,13 @@ use Prim.Native.Nat.{ℕ}
 use mathlib.Core.List.{List, [], _∷_}
 use lib.ListN.{length}
 use Rattle.book.specs.declared.Book.{Book}
-use Rattle.book.specs.Open as rules-open
-use Rattle.book.specs.Instructing as rules
-use Rattle.book.specs.Buying as rules-buying
-use Rattle.book.specs.Closing as rules-closing
-use Rattle.book.specs.Month as rules-month
-use Rattle.journal.specs.Calls.{Opening, Call, enter, withdraw, cancel, deliver, offer, close, month, Event, Run}
+use Rattle.book.specs.declared.Entered.{Entered}
+use Rattle.book.specs.declared.Done.{Done}
+use Rattle.book.specs.declared.Cancelled.{Cancelled}
+use Rattle.book.specs.declared.Delivered.{Delivered}
+use Rattle.book.specs.declared.Closed.{Closed}
+use Rattle.book.specs as rules
+use Rattle.journal.specs.Calls.{Opening, Call, Event, Run}
 
 -- what comes of a call on a book: the answer number, the results, the words of the list that it fills and of the list that
 -- it only reads, and the book
@@ -19,51 +20,65 @@ pub record Outcome : Type 0 where
   pub kept : List ℕ
   pub book : Book
 
+-- ---- the outcome by the answer of a function
+-- A1, Refusals: an answer number alone
+abbrev pub ofDone : Done → Outcome
+ofDone r = record { answer = r .answer; results = []; words = []; kept = []; book = r .book }
+
+-- E11, Enter: the leg, and the obligation plus 1 or 0
+abbrev pub ofEntered : Entered → Outcome
+ofEntered r = record { answer = r .answer; results = r .leg ∷ r .obligation ∷ []; words = []; kept = []; book = r .book }
+
+-- K3, Cancel: the quantity moved
+abbrev pub ofCancelled : Cancelled → Outcome
+ofCancelled r = record { answer = r .answer; results = r .moved ∷ []; words = []; kept = []; book = r .book }
+
+-- V2, Deliver: the cash
+abbrev pub ofDelivered : Delivered → Outcome
+ofDelivered r = record { answer = r .answer; results = r .cash ∷ []; words = []; kept = []; book = r .book }
+
+-- C15, Close: the number of lines, and every word of its list
+abbrev pub ofClosed : Closed → List ℕ → Outcome
+ofClosed r words = record { answer = r .answer; results = r .count ∷ []; words = words; kept = []; book = r .book }
+
+-- M3, Month: every place for payouts, and the collected amounts as the call ended
+abbrev pub ofPaid : Done → List ℕ → List ℕ → Outcome
+ofPaid r payouts collected = record { answer = r .answer; results = []; words = payouts; kept = collected; book = r .book }
+
 -- J3, Whole journals: each call by its own definition. The collected amounts of a Month end as they were lent.
 abbrev pub outcome : Book → Call → Outcome
-outcome b (enter member other side q a j) =
-    let r = rules.enter b member other side q a j in
-    record { answer = r .answer; results = r .leg ∷ r .obligation ∷ []; words = []; kept = []; book = r .book }
-outcome b (withdraw leg member) =
-    let r = rules.withdraw b leg member in
-    record { answer = r .answer; results = []; words = []; kept = []; book = r .book }
-outcome b (cancel n member) =
-    let r = rules.cancel b n member in
-    record { answer = r .answer; results = r .moved ∷ []; words = []; kept = []; book = r .book }
-outcome b (deliver n q) =
-    let r = rules.deliver b n q in
-    record { answer = r .answer; results = r .cash ∷ []; words = []; kept = []; book = r .book }
-outcome b (offer n supplier q price) =
-    let r = rules-buying.offer b n supplier q price in
-    record { answer = r .answer; results = []; words = []; kept = []; book = r .book }
-outcome b (close price rate lines) =
-    let r = rules-closing.close b price rate (length lines) in
-    record { answer = r .answer; results = r .count ∷ []; words = rules-closing.closeWords b price rate lines; kept = []; book = r .book }
-outcome b (month collected payouts) =
-    let r = rules-month.month b collected (length payouts) in
-    record { answer = r .answer; results = []; words = rules-month.monthWords b collected payouts; kept = collected; book = r .book }
+outcome b (Call.enter member other side q a j) = ofEntered (rules.Instructing.enter b member other side q a j)
+outcome b (Call.withdraw leg member) = ofDone (rules.Instructing.withdraw b leg member)
+outcome b (Call.cancel n member) = ofCancelled (rules.Instructing.cancel b n member)
+outcome b (Call.deliver n q) = ofDelivered (rules.Instructing.deliver b n q)
+outcome b (Call.offer n supplier q price) = ofDone (rules.Buying.offer b n supplier q price)
+outcome b (Call.close price rate lines) =
+    ofClosed (rules.Close.close b price rate (length lines)) (rules.Close.closeWords b price rate lines)
+outcome b (Call.month collected payouts) =
+    ofPaid (rules.Month.month b collected (length payouts)) (rules.Month.monthWords b collected payouts) collected
 
--- a call with what comes of it
+-- a call with what came of it
+abbrev pub eventWith : Call → Outcome → Event
+eventWith c r = record { call = c; answer = r .answer; results = r .results; words = r .words; kept = r .kept }
+
+-- a call with what comes of it by the rules
 abbrev pub eventOf : Book → Call → Event
-eventOf b c =
-    let r = outcome b c in
-    record { call = c; answer = r .answer; results = r .results; words = r .words; kept = r .kept }
+eventOf b c = eventWith c (outcome b c)
 
 -- J1 and J3, Whole journals: the book that an Open returned, accepted or refused, and no call yet. The closed days end as
 -- they were lent.
 abbrev pub begun : Opening → Run
 begun o =
-    let r = rules-open.opened (o .first) (o .closed) (o .terms) in
+    let r = rules.Open.opened (o .first) (o .closed) (o .terms) in
     record { opening = o; began = record { answer = r .answer; closed = o .closed }; book = r .book; past = [] }
 
--- one call more
+-- one call more, with what came of it
+abbrev pub after : Run → Call → Outcome → Run
+after s c r = record { opening = s .opening; began = s .began; book = r .book; past = eventWith c r ∷ s .past }
+
+-- one call more, with what comes of it by the rules
 abbrev pub step : Run → Call → Run
-step s c = record {
-  opening = s .opening;
-  began = s .began;
-  book = outcome (s .book) c .book;
-  past = eventOf (s .book) c ∷ s .past;
-}
+step s c = after s c (outcome (s .book) c)
 
 -- J3, Whole journals: what an Open and a list of calls lead to, worked out from nothing but these. The latest call stands
 -- first.

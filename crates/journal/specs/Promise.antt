@@ -9,32 +9,32 @@ use mathlib.Core.Option.{some}
 use lib.Dec.{eqb}
 use lib.ListN.{getD}
 use Rattle.basics.specs.Choice.{pick}
-use Rattle.basics.specs.Lists.{sum}
+use Rattle.basics.specs.Lists.{sum, total}
 use Rattle.offers.specs.declared.Offer.{Offer}
 use Rattle.offers.specs.declared.Given.{Given}
 use Rattle.offers.specs.Rank.{InOrder}
 use Rattle.offers.specs.BuyIn.{given}
+use Rattle.ledger.specs.declared.Part.{Part}
+use Rattle.ledger.specs.declared.Part.the-variants.{BoughtIn}
+use Rattle.ledger.specs.Parts.{partOf, everyPart}
 use Rattle.ledger.specs.Obligations.{inBuyIn}
 use Rattle.closing.specs.declared.Line.{Line}
 use Rattle.book.specs.declared.Shown.{Shown}
 use Rattle.book.specs.declared.Balance.{Balance}
 use Rattle.book.specs.declared.Looked.{Looked}
 use Rattle.journal.specs.Calls.{Opening, Event}
-use Rattle.journal.specs.Effects.{Deal, effect}
-use Rattle.journal.specs.Sums.{termsIn, todayIn, dealIn, deliveredIn, boughtIn, compensatedIn, cancelledIn, outstandingIn, ageIn, accountIn, claimsIn, lastClosedIn}
+use Rattle.journal.specs.Facts.{Instructed, partOfKind, isPart, isEnd, reported, facts}
+use Rattle.journal.specs.Sums.{termsIn, todayIn, instructedIn, partIn, outstandingIn, ageIn, accountIn, claimsIn, lastClosedIn}
 use Rattle.journal.specs.History.{gracePriceIn, graceClosedIn, offersIn}
 
 -- J10 and J15, Whole journals: what a Status after the list shows of an obligation of the list. It is accepted and shows
--- the instructed quantity and the four sums. Together with what it shows as outstanding the sums are the quantity. Once a
+-- the instructed quantity and the sum of each part. Together with what it shows as outstanding the sums are the quantity. Once a
 -- Close was accepted on the last day, nothing is outstanding.
-pub record StatusShows (o : Opening) (es : List Event) (n : ℕ) (i : Deal) (t : Shown) : Type 0 where
+pub record StatusShows (o : Opening) (es : List Event) (n : ℕ) (i : Instructed) (t : Shown) : Type 0 where
   pub accepted : t .answer ≡ 0
   pub quantity : t .quantity ≡ i .quantity
-  pub delivered : t .parts .delivered ≡ deliveredIn n es
-  pub bought-in : t .parts .«bought_in» ≡ boughtIn n es
-  pub compensated : t .parts .compensated ≡ compensatedIn n es
-  pub cancelled : t .parts .cancelled ≡ cancelledIn n es
-  pub whole : i .quantity ≡ deliveredIn n es + boughtIn n es + compensatedIn n es + cancelledIn n es + t .parts .outstanding
+  pub part : (k : Part) → partOf k (t .parts) ≡ partIn k n es
+  pub whole : i .quantity ≡ total (λ k. partIn k n es) everyPart + t .parts .outstanding
   pub last-day : lastClosedIn o n es ≡ true → t .parts .outstanding ≡ 0
 
 -- J11, Whole journals: what an Account after the list shows of a member
@@ -42,8 +42,8 @@ pub record AccountShows (es : List Event) (m : ℕ) (t : Balance) : Type 0 where
   pub accepted : t .answer ≡ 0
   pub cents : t .cents ≡ accountIn m es
 
--- L3, Reading: after these events obligation n, of which this is the deal, is late, and member m sells it
-pub record IsLate (o : Opening) (es : List Event) (m n : ℕ) (i : Deal) : Type 0 where
+-- L3, Reading: after these events obligation n, which was instructed so, is late, and member m sells it
+pub record IsLate (o : Opening) (es : List Event) (m n : ℕ) (i : Instructed) : Type 0 where
   pub seller : i .seller ≡ m
   pub past-due : i .day .0 < todayIn o es .0
   pub left : 0 < outstandingIn n i es
@@ -51,8 +51,8 @@ pub record IsLate (o : Opening) (es : List Event) (m n : ℕ) (i : Deal) : Type 
 -- L3 and L4, Reading: what Look shows of a member's late obligations after the list: 0 if there is none, else the number
 -- plus 1 of one of them
 pub data LateShown (o : Opening) (es : List Event) (m : ℕ) : ℕ → Type 0 where
-  none-late : ((n : ℕ) (i : Deal) → dealIn n es ≡ some i → IsLate o es m n i → ⊥) → LateShown o es m 0
-  one-late : (n : ℕ) (i : Deal) → dealIn n es ≡ some i → IsLate o es m n i → LateShown o es m (n + 1)
+  none-late : ((n : ℕ) (i : Instructed) → instructedIn n es ≡ some i → IsLate o es m n i → ⊥) → LateShown o es m 0
+  one-late : (n : ℕ) (i : Instructed) → instructedIn n es ≡ some i → IsLate o es m n i → LateShown o es m (n + 1)
 
 -- L3, Reading: what Look shows of a member after the list
 pub record LookShows (o : Opening) (es : List Event) (m : ℕ) (t : Looked) : Type 0 where
@@ -78,7 +78,7 @@ EachEvent P (e ∷ es) = P e es × EachEvent P es
 
 -- J13 and J14, Whole journals: every accepted Month of a journal
 abbrev pub EveryMonth : List Event → Type 0
-EveryMonth es = EachEvent (λ e earlier. (cs : List ℕ) → effect e .collects ≡ some cs → MonthPays cs (e .words) earlier) es
+EveryMonth es = EachEvent (λ e earlier. (cs : List ℕ) → facts e .collects ≡ some cs → MonthPays cs (e .words) earlier) es
 
 -- B9, Buy-in: the cap of an obligation has its price: a Close was accepted at age = grace, and its price is at least 1
 pub record HasCapPrice (o : Opening) (es : List Event) (n : ℕ) : Type 0 where
@@ -87,19 +87,19 @@ pub record HasCapPrice (o : Opening) (es : List Event) (n : ℕ) : Type 0 where
 
 -- B9, Buy-in: every obligation of a journal whose age is above grace
 abbrev pub EveryCapPrice : Opening → List Event → Type 0
-EveryCapPrice o es = (n : ℕ) (i : Deal) → dealIn n es ≡ some i → termsIn o .grace .0 < ageIn o i es → HasCapPrice o es n
+EveryCapPrice o es = (n : ℕ) (i : Instructed) → instructedIn n es ≡ some i → termsIn o .grace .0 < ageIn o i es → HasCapPrice o es n
 
--- C11 and C12, Close: what a line of kind 3 says of an offer that gave: how much, by which supplier and at which price
+-- C11 and C12, Close: what a line of a bought quantity says of the offer that gave it: how much, by which supplier and at which price
 pub record Purchase : Type 0 where
   pub quantity : ℕ
   pub supplier : ℕ
   pub price : ℕ
 
--- C11 and C12, Close: what these lines say was bought in of obligation n: its lines of kind 3, in their order
+-- C11 and C12, Close: what these lines say was bought in of obligation n, in their order
 unfoldable pub purchasesIn : ℕ → List Line → List Purchase
 purchasesIn n [] = []
 purchasesIn n (l ∷ ls) =
-    pick (eqb (l .kind) 3 && eqb (l .obligation) n)
+    pick (isPart BoughtIn (partOfKind (l .kind)) && eqb (l .obligation) n)
     (record { quantity = l .quantity; supplier = l .supplier; price = l .price } ∷ purchasesIn n ls)
     (purchasesIn n ls)
 
@@ -107,7 +107,7 @@ purchasesIn n (l ∷ ls) =
 abbrev pub purchaseFrom : Given → Purchase
 purchaseFrom g = record { quantity = g .quantity; supplier = g .offer .supplier; price = g .offer .price }
 
--- C7 and C8, Close: of obligation n, of which left units are outstanding, the lines of kind 3 are those got from the
+-- C7 and C8, Close: of obligation n, of which left units are outstanding, the lines of what was bought in are those got from the
 -- offers accepted since the last accepted Close, which have their turns by rising price, then larger quantity, then
 -- earlier entry. In its turn each offer for n gives the smaller of its quantity and what is left, and has a line if that
 -- is not 0.
@@ -119,9 +119,9 @@ pub record BoughtInTurn (earlier : List Event) (n left : ℕ) (ls : List Line) :
 -- C7, Close: of every obligation that is in its buy-in days after these events, with an age above grace and not above
 -- last and something outstanding, these lines say what its offers give in their turns
 abbrev pub BuysInTurn : Opening → List Event → List Line → Type 0
-BuysInTurn o earlier ls = (n : ℕ) (i : Deal) → dealIn n earlier ≡ some i → 0 < outstandingIn n i earlier →
+BuysInTurn o earlier ls = (n : ℕ) (i : Instructed) → instructedIn n earlier ≡ some i → 0 < outstandingIn n i earlier →
     inBuyIn (termsIn o) (ageIn o i earlier) ≡ true → BoughtInTurn earlier n (outstandingIn n i earlier) ls
 
 -- C7, Close: every accepted Close of a journal
 abbrev pub EveryBuyIn : Opening → List Event → Type 0
-EveryBuyIn o es = EachEvent (λ e earlier. effect e .turns ≡ true → BuysInTurn o earlier (effect e .lines)) es
+EveryBuyIn o es = EachEvent (λ e earlier. isEnd (facts e .ends) ≡ true → BuysInTurn o earlier (reported (facts e .ends))) es

@@ -1,5 +1,5 @@
 -- The sums over a journal, from its Open and its events alone. Events stand the latest first.
-use Prim.Native.Nat.{ℕ, _+_, _-_}
+use Prim.Native.Nat.{ℕ, _-_}
 use mathlib.Core.Bool.{Bool, true, false, _&&_, _||_}
 use mathlib.Core.List.{List, [], _∷_}
 use mathlib.Core.Option.{Option, none, some}
@@ -14,12 +14,16 @@ use Rattle.calendar.specs.declared.NextDay.the-variants.{At, Never}
 use Rattle.calendar.specs.Closed.{day, closedDays, listed}
 use Rattle.calendar.specs.Days.{ageAt, nextAfter}
 use Rattle.netting.specs.Accounts.{claim}
+use Rattle.ledger.specs.declared.Setup.{Setup}
 use Rattle.ledger.specs.declared.Terms.{Terms}
+use Rattle.ledger.specs.declared.Part.{Part}
+use Rattle.ledger.specs.Parts.{everyPart}
 use Rattle.closing.specs.declared.Line.{Line}
+use Rattle.closing.specs.Lines.{penaltyKind}
 use Rattle.refusals.specs.Refusals.{answer, outcome}
 use Rattle.book.specs.Open.{openRefusals, termsOf}
 use Rattle.journal.specs.Calls.{Opening, Event}
-use Rattle.journal.specs.Effects.{Deal, effect}
+use Rattle.journal.specs.Facts.{Instructed, instructs, isEnd, reported, facts, movedBy}
 
 -- ---- what the Open says
 -- O5 and O6, Open: the value that an accepted Open gives the book, or that of the book that a refused Open returns
@@ -38,6 +42,10 @@ closedIn o = openedWith o (closedDays (o .closed)) (closedDays [])
 abbrev pub termsIn : Opening → Terms
 termsIn o = openedWith o (termsOf (o .terms)) (termsOf 0)
 
+-- O5 and O6, Open: the closed days and the terms, to which the book keeps
+abbrev pub setupIn : Opening → Setup
+setupIn o = record { «closed_days» = closedIn o; terms = termsIn o }
+
 -- C17, Close: today moves on to the next clearing day. An accepted Close has one: without a next clearing day a Close is
 -- refused by 20 (R20), so that the day stays.
 abbrev pub movedOn : NextDay → Day → Day
@@ -47,7 +55,7 @@ movedOn Never today = today
 -- O5, Open, and C17, Close: today is Open's first day, moved on to the next clearing day by each accepted Close
 unfoldable pub todayIn : Opening → List Event → Day
 todayIn o [] = firstDay o
-todayIn o (e ∷ es) = pick (effect e .turns) (movedOn (nextAfter (listed (closedIn o)) (todayIn o es)) (todayIn o es)) (todayIn o es)
+todayIn o (e ∷ es) = pick (isEnd (facts e .ends)) (movedOn (nextAfter (listed (closedIn o)) (todayIn o es)) (todayIn o es)) (todayIn o es)
 
 -- ---- the obligations of a journal
 -- the first of two that is there
@@ -56,52 +64,34 @@ orElse (some x) y = some x
 orElse none y = y
 
 -- J4, Whole journals: the obligations of a journal are those whose number plus 1 an accepted Enter returned
-unfoldable pub dealIn : ℕ → List Event → Option Deal
-dealIn n [] = none
-dealIn n (e ∷ es) = orElse (effect e .instructs n) (dealIn n es)
+unfoldable pub instructedIn : ℕ → List Event → Option Instructed
+instructedIn n [] = none
+instructedIn n (e ∷ es) = orElse (instructs n (facts e .legs)) (instructedIn n es)
 
--- J6, Whole journals: delivered is the sum of the quantities of its accepted Delivers
-unfoldable pub deliveredIn : ℕ → List Event → ℕ
-deliveredIn n es = total (λ e. effect e .delivers n) es
+-- J6 to J9, Whole journals: what became part k of an obligation. Delivered is the sum of the quantities of its accepted
+-- Delivers, bought in and compensated are the sums of the quantities of its reported lines of kinds 3 and 4, and cancelled
+-- is the sum of what its accepted Cancels returned.
+unfoldable pub partIn : Part → ℕ → List Event → ℕ
+partIn k n es = total (λ e. movedBy k n (facts e)) es
 
--- J9, Whole journals: cancelled is the sum of what its accepted Cancels returned
-unfoldable pub cancelledIn : ℕ → List Event → ℕ
-cancelledIn n es = total (λ e. effect e .cancels n) es
+-- J10, Whole journals: what is outstanding of obligation n is the instructed quantity less the sums of all parts
+unfoldable pub outstandingIn : ℕ → Instructed → List Event → ℕ
+outstandingIn n i es = i .quantity - total (λ k. partIn k n es) everyPart
 
--- the quantity of a line if it is of this kind and of obligation n, else 0
-unfoldable pub quantityOf : ℕ → ℕ → Line → ℕ
-quantityOf kind n l = pick (eqb (l .kind) kind && eqb (l .obligation) n) (l .quantity) 0
-
--- J7 and J8, Whole journals: the sum of the quantities of its reported lines of a kind
-unfoldable pub reportedIn : ℕ → ℕ → List Event → ℕ
-reportedIn kind n es = total (λ e. total (quantityOf kind n) (effect e .lines)) es
-
--- J7, Whole journals: bought in is the sum of the lines of kind 3
-abbrev pub boughtIn : ℕ → List Event → ℕ
-boughtIn = reportedIn 3
-
--- J8, Whole journals: compensated is the sum of the lines of kind 4
-abbrev pub compensatedIn : ℕ → List Event → ℕ
-compensatedIn = reportedIn 4
-
--- J10, Whole journals: what is outstanding of obligation n is the quantity of its deal less the four sums
-unfoldable pub outstandingIn : ℕ → Deal → List Event → ℕ
-outstandingIn n i es = i .quantity - (deliveredIn n es + boughtIn n es + compensatedIn n es + cancelledIn n es)
-
--- B1, Buy-in: the age of a deal after these events
-abbrev pub ageIn : Opening → Deal → List Event → ℕ
+-- B1, Buy-in: the age of what was instructed, after these events
+abbrev pub ageIn : Opening → Instructed → List Event → ℕ
 ageIn o i es = ageAt (listed (closedIn o)) (i .day) (todayIn o es) .0
 
 -- ---- the accounts of a journal
--- C5, Close: what the cents of a penalty on a deal credit to a member, less what they debit to it
-abbrev pub creditOf : ℕ → ℕ → Option Deal → ℤ
+-- C5, Close: what the cents of a penalty on what was instructed credit to a member, less what they debit to it
+abbrev pub creditOf : ℕ → ℕ → Option Instructed → ℤ
 creditOf m cents none = pos 0
 creditOf m cents (some i) = pick (eqb (i .buyer) m) (pos cents) (pos 0) -ℤ pick (eqb (i .seller) m) (pos cents) (pos 0)
 
 -- C5 and C12, Close: the lines of kind 1 are penalties, which pass from the seller of their obligation to its buyer
-unfoldable pub penaltiesOf : ℕ → (ℕ → Option Deal) → List Line → ℤ
-penaltiesOf m deals [] = pos 0
-penaltiesOf m deals (l ∷ ls) = pick (eqb (l .kind) 1) (creditOf m (l .cents) (deals (l .obligation))) (pos 0) +ℤ penaltiesOf m deals ls
+unfoldable pub penaltiesOf : ℕ → (ℕ → Option Instructed) → List Line → ℤ
+penaltiesOf m instructed [] = pos 0
+penaltiesOf m instructed (l ∷ ls) = pick (eqb (l .kind) penaltyKind) (creditOf m (l .cents) (instructed (l .obligation))) (pos 0) +ℤ penaltiesOf m instructed ls
 
 -- whether an event that collects this is a Month
 abbrev pub isMonth : Option (List ℕ) → Bool
@@ -112,19 +102,19 @@ isMonth (some cs) = true
 -- to a member, less what they debited to it
 unfoldable pub accountIn : ℕ → List Event → ℤ
 accountIn m [] = pos 0
-accountIn m (e ∷ es) = pick (isMonth (effect e .collects)) (pos 0) (accountIn m es +ℤ penaltiesOf m (λ n. dealIn n es) (effect e .lines))
+accountIn m (e ∷ es) = pick (isMonth (facts e .collects)) (pos 0) (accountIn m es +ℤ penaltiesOf m (λ n. instructedIn n es) (reported (facts e .ends)))
 
 -- M4 and J13, Month: the claims after these events, in the order of the members
 abbrev pub claimsIn : List Event → List ℕ
 claimsIn es = table 32 (λ m. claim (accountIn m es))
 
 -- ---- the last day
--- B3, Buy-in: whether today is the last day of a deal, on which its age is last
-abbrev pub isLastDay : Opening → Day → Option Deal → Bool
+-- B3, Buy-in: whether today is the last day of what was instructed, on which its age is last
+abbrev pub isLastDay : Opening → Day → Option Instructed → Bool
 isLastDay o today none = false
 isLastDay o today (some i) = eqb (ageAt (listed (closedIn o)) (i .day) today .0) (termsIn o .last .0)
 
 -- J15, Whole journals: whether a Close was accepted on the last day of an obligation
 unfoldable pub lastClosedIn : Opening → ℕ → List Event → Bool
 lastClosedIn o n [] = false
-lastClosedIn o n (e ∷ es) = lastClosedIn o n es || (effect e .turns && isLastDay o (todayIn o es) (dealIn n es))
+lastClosedIn o n (e ∷ es) = lastClosedIn o n es || (isEnd (facts e .ends) && isLastDay o (todayIn o es) (instructedIn n es))

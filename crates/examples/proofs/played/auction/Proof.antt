@@ -9,7 +9,7 @@ use Rattle.book.specs.declared.Book.{Book}
 use Rattle.book.specs.declared.Done.{Done}
 use Rattle.book.specs.declared.Closed.{Closed}
 use Rattle.book.specs.Buying.{offer}
-use Rattle.book.specs.Closing.{close, closeWords}
+use Rattle.book.specs.Close.{close, closeWords}
 use Rattle.examples.proofs.Same.{none-differs}
 use Rattle.examples.proofs.Settled.{twoBought, example-10, example-10-words}
 use borrow.Author.Needs.{needs}

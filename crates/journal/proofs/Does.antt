@@ -1,0 +1,97 @@
+-- What a call does: one record for all that is proved of it, and what holds of a call that changes legs or offers alone.
+use Prim.Native.Nat.{ℕ, _≤_}
+use native.Mathlib.Omega.{arith}
+use mathlib.Core.Path.{_≡_, refl}
+use mathlib.Core.Bool.{true, false}
+use mathlib.Core.List.{List, [], _++_}
+use mathlib.Core.Option.{none, some}
+use lib.Dec.{eqb}
+use borrow.Author.Tests.{ne-eqb}
+use Rattle.basics.specs.Choice.{pick}
+use Rattle.calendar.specs.declared.Day.{Day}
+use Rattle.calendar.specs.declared.NextDay.the-variants.{At}
+use Rattle.offers.specs.declared.Offer.{Offer}
+use Rattle.offers.specs.Rank.{ranked}
+use Rattle.offers.specs.Held.{listed}
+use Rattle.instructions.specs.Legs.{entered}
+use Rattle.payments.specs.Month.{payoutsOf}
+use Rattle.book.specs.declared.Book.{Book}
+use Rattle.book.specs.Book.{Valid}
+use Rattle.book.specs.Close.{nextDay, linesOf}
+use Rattle.book.specs.Month.{monthAnswer}
+use Rattle.journal.specs.Calls.{Call}
+use Rattle.journal.specs.Played.{Outcome, eventWith}
+use Rattle.journal.specs.Facts.{LegChange, neither, Instructed, instructs, Ended, isEnd, priceOf, Facts, noFacts, factsOf, facts}
+use Rattle.journal.specs.Sums.{isMonth}
+use Rattle.journal.specs.History.{legsAfter}
+use Rattle.journal.proofs.Moves.{Moves}
+use Rattle.journal.proofs.Steps.{plain, moves-nothing}
+use Rattle.journal.proofs.RecalledLegs.{Proper}
+use Rattle.journal.proofs.RecalledRows.{RowsLeft, rows-same}
+
+-- what a call leaves of what a book stores: b is the book before it, after the book behind it, f what its event says
+pub record Leaves (b after : Book) (f : Facts) : Type 0 where
+  pub close-since : after .day .«close_since» ≡ pick (isEnd (f .ends)) true (pick (isMonth (f .collects)) false (b .day .«close_since»))
+  pub rows : RowsLeft b after (isEnd (f .ends)) (priceOf (f .ends)) (f .wishes)
+  pub offers : (xs : List Offer) → listed (b .ledger .offers) ≡ ranked xs → listed (after .ledger .offers) ≡ ranked (pick (isEnd (f .ends)) [] (f .offers ++ xs))
+  pub legs : entered (after .legs) ≡ legsAfter (f .legs) (entered (b .legs))
+  pub proper : Proper (f .legs) (entered (b .legs))
+
+-- what is known of a call that ended the day: the lines are those of the rules, the price is at least 1, there is a next
+-- day, and no leg was touched
+pub record Closes (b : Book) (f : Facts) (d : Ended) : Type 0 where
+  pub rate : ℕ
+  pub lines : d .lines ≡ linesOf b (d .price) rate
+  pub price : 1 ≤ d .price
+  pub next : Day
+  pub on : nextDay b ≡ At next
+  pub legs : f .legs ≡ neither
+
+-- what is known of a call that collected amounts: it was not refused, and its list ended as the payouts of the rules
+pub record Pays (b : Book) (cs words : List ℕ) : Type 0 where
+  pub places : ℕ
+  pub accepted : monthAnswer b cs places ≡ 0
+  pub payouts : words ≡ payoutsOf (b .ledger .accounts) cs
+
+-- what a call does: f is what its event says, words the list that it filled as it ended
+pub record Does (b after : Book) (f : Facts) (words : List ℕ) : Type 0 where
+  pub moves : Moves b after f
+  pub leaves : Leaves b after f
+  -- what it instructs is not due before today
+  pub due : (n : ℕ) (i : Instructed) → instructs n (f .legs) ≡ some i → b .day .today .0 ≤ i .day .0
+  pub closes : (d : Ended) → f .ends ≡ some d → Closes b f d
+  pub pays : (cs : List ℕ) → f .collects ≡ some cs → Pays b cs words
+
+-- a call with what came of it
+abbrev pub DoesAs : Book → Call → Outcome → Type 0
+DoesAs b c r = Does b (r .book) (facts (eventWith c r)) (r .words)
+
+pub no-some : {A : Type 0} {x : A} → none ≡ some x → ⊥
+no-some e = let z : _≡_ {A = ℕ} 0 1 = cc in omega arith
+
+-- ---- other legs and offers, or neither
+pub does-plain : (b after : Book) (c : LegChange) (xs : List Offer) (words : List ℕ) → Moves b after (plain c xs) → Leaves b after (plain c xs) →
+    ((n : ℕ) (i : Instructed) → instructs n c ≡ some i → b .day .today .0 ≤ i .day .0) → Does b after (plain c xs) words
+does-plain b after c xs words m l h = record {
+  moves = m;
+  leaves = l;
+  due = h;
+  closes = λ d e. absurd (no-some e);
+  pays = λ cs e. absurd (no-some e);
+}
+
+-- ---- a call that says nothing
+pub does-nothing : (b after : Book) (words : List ℕ) → Valid after → after .setup ≡ b .setup → after .day ≡ b .day →
+    after .legs ≡ b .legs → after .ledger ≡ b .ledger → Does b after noFacts words
+does-nothing b after words v setup day legs ledger =
+    does-plain b after neither [] words (moves-nothing b after neither [] v setup (rw day) (rw ledger) (rw ledger) (rw ledger) (λ n. refl)) (record {
+      close-since = rw day;
+      rows = rows-same b after (rw ledger) (rw ledger);
+      offers = λ xs e. rw ledger e;
+      legs = rw legs;
+      proper = tt;
+    }) (λ n i e. absurd (no-some e))
+
+-- a refused call does nothing
+pub refused-does : (b : Book) → Valid b → (c : Call) (n : ℕ) (rs ws : List ℕ) → (n ≡ 0 → ⊥) → Does b b (pick (eqb n 0) (factsOf c rs ws) noFacts) ws
+refused-does b v c n rs ws z = rw (ne-eqb n 0 z) (does-nothing b b ws v refl refl refl refl)

@@ -1,0 +1,159 @@
+-- What one event says: its facts. Every sum and every history of a journal takes its own from them.
+use Prim.Native.Nat.{ℕ, zero, suc, _+_}
+use mathlib.Core.Bool.{Bool, true, false, _&&_}
+use mathlib.Core.List.{List, [], _∷_}
+use mathlib.Core.Option.{Option, none, some}
+use lib.Dec.{eqb}
+use lib.ListN.{getD, drop}
+use Rattle.basics.specs.Choice.{pick}
+use Rattle.basics.specs.Lists.{total}
+use Rattle.calendar.specs.declared.Day.{Day}
+use Rattle.offers.specs.declared.Offer.{Offer}
+use Rattle.ledger.specs.declared.Part.{Part}
+use Rattle.ledger.specs.declared.Part.the-variants.{Delivered, BoughtIn, Compensated, Cancelled}
+use Rattle.ledger.specs.Parts.{samePart}
+use Rattle.instructions.specs.declared.Leg.{Leg}
+use Rattle.closing.specs.declared.Line.{Line}
+use Rattle.closing.specs.Lines.{boughtKind, compensationKind}
+use Rattle.book.specs.Instructing.{newLeg}
+use Rattle.journal.specs.Calls.{Call, Event}
+
+-- ---- Enter and Withdraw
+-- E2 and T1, Enter and Withdraw: what a call does to the legs. It enters one, and then the two numbers are those that it
+-- returned, or it withdraws one, or it does neither.
+pub data LegChange : Type 0 where
+  enters : (leg obligation : ℕ) → Leg → LegChange
+  withdraws : ℕ → LegChange
+  neither : LegChange
+
+-- J4, Whole journals: what the Enter that returned an obligation instructed: its parties, quantity and settlement day
+pub record Instructed : Type 0 where
+  pub seller : ℕ
+  pub buyer : ℕ
+  pub quantity : ℕ
+  pub day : Day
+
+-- E1 and E8, Enter: the member of side 0 delivers, so it sells to the other member. The member of side 1 receives.
+unfoldable pub instructedBy : Leg → Instructed
+instructedBy new =
+    pick (eqb (new .side) 0) (record { seller = new .member; buyer = new .other; quantity = new .quantity; day = new .day })
+    (record { seller = new .other; buyer = new .member; quantity = new .quantity; day = new .day })
+
+-- J4, Whole journals: an Enter that returned n + 1 instructs obligation n
+abbrev pub instructs : ℕ → LegChange → Option Instructed
+instructs n (enters leg obligation new) = pick (eqb obligation (n + 1)) (some (instructedBy new)) none
+instructs n (withdraws leg) = none
+instructs n neither = none
+
+-- ---- Close
+-- J5 and C11, Whole journals: the reported lines of a Close are read from its list as it ended. They are as many as the
+-- Close returned, and each has six words.
+unfoldable pub linesRead : ℕ → List ℕ → List Line
+linesRead zero ws = []
+linesRead (suc k) ws =
+    record {
+      kind = getD ws 0 0;
+      obligation = getD ws 1 0;
+      quantity = getD ws 2 0;
+      cents = getD ws 3 0;
+      supplier = getD ws 4 0;
+      price = getD ws 5 0;
+    }
+    ∷ linesRead k (drop 6 ws)
+
+-- J7 and J8, Whole journals: a line of kind 3 says what was bought in, and a line of kind 4 says what was compensated
+abbrev pub partOfKind : ℕ → Option Part
+partOfKind kind = pick (eqb kind boughtKind) (some BoughtIn) (pick (eqb kind compensationKind) (some Compensated) none)
+
+-- whether this is the part
+abbrev pub isPart : Part → Option Part → Bool
+isPart k none = false
+isPart k (some j) = samePart k j
+
+-- the quantity of a line if it says what became part k of obligation n, else 0
+unfoldable pub quantityTo : Part → ℕ → Line → ℕ
+quantityTo k n l = pick (isPart k (partOfKind (l .kind)) && eqb (l .obligation) n) (l .quantity) 0
+
+-- C1 and J5, Close: how an accepted Close ended the day: its price, and the lines that it reported
+pub record Ended : Type 0 where
+  pub price : ℕ
+  pub lines : List Line
+
+-- whether there was a Close
+abbrev pub isEnd : Option Ended → Bool
+isEnd none = false
+isEnd (some d) = true
+
+-- the lines that were reported
+abbrev pub reported : Option Ended → List Line
+reported none = []
+reported (some d) = d .lines
+
+-- the price of the Close
+abbrev pub priceOf : Option Ended → ℕ
+priceOf none = 0
+priceOf (some d) = d .price
+
+-- ---- the facts of an event
+-- What an event says: what it does to the legs; which quantity of an obligation it moves to a part, beside what its lines
+-- say; whether it is member m's wish to cancel obligation n; the offers that it enters; how it ended the day if it is a
+-- Close; and what it collected if it is a Month.
+pub record Facts : Type 0 where
+  pub legs : LegChange
+  pub moves : Part → ℕ → ℕ
+  pub wishes : ℕ → ℕ → Bool
+  pub offers : List Offer
+  pub ends : Option Ended
+  pub collects : Option (List ℕ)
+
+-- an event that says nothing
+abbrev pub noFacts : Facts
+noFacts = record { legs = neither; moves = λ k n. 0; wishes = λ n m. false; offers = []; ends = none; collects = none }
+
+-- E2 and T1, Enter and Withdraw: it only changes the legs
+abbrev pub onlyLegs : LegChange → Facts
+onlyLegs c = record { legs = c; moves = λ k n. 0; wishes = λ n m. false; offers = []; ends = none; collects = none }
+
+-- a quantity of one obligation moves to one part
+abbrev pub movesOne : Part → ℕ → ℕ → Part → ℕ → ℕ
+movesOne k n q j m = pick (samePart j k && eqb m n) q 0
+
+-- it moves quantities, and it may be a wish to cancel
+abbrev pub onlyMoves : (Part → ℕ → ℕ) → (ℕ → ℕ → Bool) → Facts
+onlyMoves f w = record { legs = neither; moves = f; wishes = w; offers = []; ends = none; collects = none }
+
+-- B5, Buy-in: it only enters offers
+abbrev pub onlyOffers : List Offer → Facts
+onlyOffers xs = record { legs = neither; moves = λ k n. 0; wishes = λ n m. false; offers = xs; ends = none; collects = none }
+
+-- C17, Close: it ends the day
+abbrev pub onlyEnds : Ended → Facts
+onlyEnds d = record { legs = neither; moves = λ k n. 0; wishes = λ n m. false; offers = []; ends = some d; collects = none }
+
+-- J13, Whole journals: it collects amounts
+abbrev pub onlyCollects : List ℕ → Facts
+onlyCollects cs = record { legs = neither; moves = λ k n. 0; wishes = λ n m. false; offers = []; ends = none; collects = some cs }
+
+-- What an accepted call says, by its results and by its list as it ended. J6, Whole journals: a Deliver delivers its
+-- quantity. J9: a Cancel cancels what it returned. J13: a Month collects the amounts that it was lent.
+abbrev pub factsOf : Call → List ℕ → List ℕ → Facts
+factsOf (Call.enter member other side q a j) rs ws = onlyLegs (enters (getD rs 0 0) (getD rs 1 0) (newLeg member other side q a j))
+factsOf (Call.withdraw leg member) rs ws = onlyLegs (withdraws leg)
+factsOf (Call.cancel n member) rs ws = onlyMoves (movesOne Cancelled n (getD rs 0 0)) (λ k m. eqb n k && eqb member m)
+factsOf (Call.deliver n q) rs ws = onlyMoves (movesOne Delivered n q) (λ k m. false)
+factsOf (Call.offer n supplier q price) rs ws = onlyOffers (record { obligation = n; supplier = supplier; quantity = q; price = price } ∷ [])
+factsOf (Call.close price rate lines) rs ws = onlyEnds (record { price = price; lines = linesRead (getD rs 0 0) ws })
+factsOf (Call.month collected payouts) rs ws = onlyCollects collected
+
+-- J2, Whole journals: a call is accepted if its answer number is 0
+abbrev pub accepted : Event → Bool
+accepted e = eqb (e .answer) 0
+
+-- A5, Refusals: what an event says; a refused call says nothing
+abbrev pub facts : Event → Facts
+facts e = pick (accepted e) (factsOf (e .call) (e .results) (e .words)) noFacts
+
+-- J6 to J9, Whole journals: what an event makes part k of obligation n: what the call moved there, and what its reported
+-- lines say
+abbrev pub movedBy : Part → ℕ → Facts → ℕ
+movedBy k n f = f .moves k n + total (quantityTo k n) (reported (f .ends))
