@@ -24,4 +24,3 @@ pub mod Recalling
 pub mod CapPrices
 pub mod BuyIns
 pub mod Showing
-pub mod Former
