@@ -21,7 +21,7 @@ use Rattle.lines.proofs.Bounds.{taken-counts, taken-none}
 use Rattle.reading.specs.declared.Line.{Line}
 use Rattle.reading.specs.declared.Line.the-variants.{Call, Comment}
 use Rattle.reading.specs.declared.Name.{Name}
-use Rattle.reading.specs.declared.Name.the-variants.{Open, Enter, Withdraw, Cancel, Deliver, Offer, Close, Month, Status, Account, Look, Rules}
+use Rattle.reading.specs.declared.Shape.{Shape}
 use Rattle.answers.specs.declared.Answer.{Answer}
 use Rattle.answers.specs.Told.{nothing}
 use Rattle.answers.specs.Text.{answerText, textIn}
@@ -34,7 +34,7 @@ use Rattle.settle.specs.Asked.{asks}
 use Rattle.settle.specs.Flow.{readOf, readInto, FedOn}
 use Rattle.settle.specs.Flow.FedOn.{ready, cleared, uncleared, fed, unfed}
 use Rattle.settle.specs.Turns.{Gives, Held, Turn, begins, Reached, mostTurns}
-use Rattle.settle.specs.Turns.Gives.{opening, entering, withdrawing, cancelling, delivering, offering, closing, paying, showing, balancing, looking, ruling, passing, objecting}
+use Rattle.settle.specs.Turns.Gives.{opening, calling, showing, balancing, looking, ruling, passing, objecting}
 use Rattle.settle.specs.Turns.Reached.{start, turn}
 use Rattle.settle.specs.Ending.{overText, textAfter, lastText, PlaysIn}
 use Rattle.settle.specs.Read.{answeredBy, isError, failsBy, writtenBy, playedIn, readIn, answeredIn, failedIn, writtenIn, answersIn, heldText, Complete, Handed}
@@ -187,23 +187,17 @@ told-all (turn {n} {h} {after} r t) =
 
 -- ---- the last turn
 -- a call is no comment
-call-comment : {A : Type 0} (name : Name) (n : ℕ) → Call name n ≡ Comment → A
-call-comment name n e = absurd (let z : _≡_ {A = ℕ} 0 1 = cc in omega arith)
+call-comment : {A : Type 0} (name : Name) (shape : Shape) (n : ℕ) → Call name shape n ≡ Comment → A
+call-comment name shape n e = absurd (let z : _≡_ {A = ℕ} 0 1 = cc in omega arith)
 
 -- a comment has no answer
 passes : {b : Book} {a : Asked} {ns ws after : List ℕ} {l : Line} {p : Played} → Gives b a ns ws l p after → l ≡ Comment → p .answer ≡ nothing
-passes (opening n) e = call-comment Open n e
-passes (entering n) e = call-comment Enter n e
-passes (withdrawing n) e = call-comment Withdraw n e
-passes (cancelling n) e = call-comment Cancel n e
-passes (delivering n) e = call-comment Deliver n e
-passes (offering n) e = call-comment Offer n e
-passes (closing n) e = call-comment Close n e
-passes (paying n) e = call-comment Month n e
-passes (showing n) e = call-comment Status n e
-passes (balancing n) e = call-comment Account n e
-passes (looking n answer h) e = call-comment Look n e
-passes (ruling n) e = call-comment Rules n e
+passes (opening shape n) e = call-comment Name.Open shape n e
+passes (calling name shape n k h) e = call-comment name shape n e
+passes (showing shape n) e = call-comment Name.Status shape n e
+passes (balancing shape n) e = call-comment Name.Account shape n e
+passes (looking shape n answer h) e = call-comment Name.Look shape n e
+passes (ruling shape n) e = call-comment Name.Rules shape n e
 passes passing e = refl
 passes objecting e = absurd (let z : _≡_ {A = ℕ} 0 1 = cc in omega arith)
 

@@ -3,19 +3,18 @@
 use Prim.Native.Nat.{ℕ}
 use mathlib.Core.Path.{_≡_, refl, ap}
 use mathlib.Core.List.{List, [], _∷_}
-use lib.ListN.{length-replicate}
 use Rattle.calendar.specs.Closed.{day}
 use Rattle.book.specs.declared.Book.{Book}
 use Rattle.reading.specs.declared.Line.{Line}
-use Rattle.journal.specs.Calls.{Opening, Call, enter, withdraw, cancel, deliver, offer, close, month, Run}
+use Rattle.journal.specs.Calls.{Opening, Call, Run}
 use Rattle.journal.specs.Played.{outcome, played}
 use Rattle.journal.proofs.Demand3.{Promise}
 use Rattle.journal.proofs.Theorem.{demand-3}
 use Rattle.settle.specs.declared.calls.Asked.{Asked}
 use Rattle.settle.specs.declared.calls.Played.{Played}
-use Rattle.settle.specs.Calls.{listIn, lentTo}
+use Rattle.settle.specs.Calls.{listIn}
 use Rattle.settle.specs.Turns.{Gives, Held, begins, Reached}
-use Rattle.settle.specs.Turns.Gives.{opening, entering, withdrawing, cancelling, delivering, offering, closing, paying, showing, balancing, looking, ruling, passing, objecting}
+use Rattle.settle.specs.Turns.Gives.{opening, calling, showing, balancing, looking, ruling, passing, objecting}
 use Rattle.settle.specs.Turns.Reached.{start, turn}
 
 -- an Open and a list of calls lead to the book
@@ -39,22 +38,13 @@ goes-on c l = record {
 -- an Open and a list of calls still lead to the book after any line
 line-leads : {b : Book} {a : Asked} {ns ws : List ℕ} {l : Line} {p : Played} {after : List ℕ}
     → Gives b a ns ws l p after → Leads b → Leads (p .book)
-line-leads {b} {a} {ns} {ws} (opening n) j =
+line-leads {b} {a} {ns} (opening shape n) j =
     opens-book (record { first = day (a .first); closed = listIn a ns; terms = a .second })
-line-leads {b} {a} (entering n) j =
-    goes-on (enter (a .first) (a .second) (a .third) (a .fourth) (a .fifth) (day (a .sixth))) j
-line-leads {b} {a} (withdrawing n) j = goes-on (withdraw (a .first) (a .second)) j
-line-leads {b} {a} (cancelling n) j = goes-on (cancel (a .first) (a .second)) j
-line-leads {b} {a} (delivering n) j = goes-on (deliver (a .first) (a .second)) j
-line-leads {b} {a} (offering n) j = goes-on (offer (a .first) (a .second) (a .third) (a .fourth)) j
-line-leads {b} {a} (closing n) j =
-    rw (length-replicate (a .lent) (a .fill)) at (goes-on (close (a .first) (a .second) (lentTo a)) j)
-line-leads {b} {a} {ns} (paying n) j =
-    rw (length-replicate (a .lent) (a .fill)) at (goes-on (month (listIn a ns) (lentTo a)) j)
-line-leads (showing n) j = j
-line-leads (balancing n) j = j
-line-leads (looking n answer h) j = j
-line-leads (ruling n) j = j
+line-leads (calling name shape n k h) j = goes-on (k .call) j
+line-leads (showing shape n) j = j
+line-leads (balancing shape n) j = j
+line-leads (looking shape n answer h) j = j
+line-leads (ruling shape n) j = j
 line-leads passing j = j
 line-leads objecting j = j
 

@@ -1,11 +1,12 @@
 -- Laws of the program. Asking: what a line asks. Lending: the words that a call is lent. Flows: where the input and the
--- output stand. Turning: what holds between two turns. Endings: what is written last. Texts: the lines that are played
--- are those of the text. Completing: a run whose input is over is complete. Journals: the program and the theorem on
--- whole journals.
+-- output stand. Turning: what holds between two turns. Doing: what a line does that asks for a call. Endings: what is
+-- written last. Texts: the lines that are played are those of the text. Completing: a run whose input is over is
+-- complete. Journals: the program and the theorem on whole journals.
 pub mod Asking
 pub mod Lending
 pub mod Flows
 pub mod Turning
+pub mod Doing
 pub mod Endings
 pub mod Texts
 pub mod Completing

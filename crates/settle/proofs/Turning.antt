@@ -1,26 +1,36 @@
 -- What holds between two turns, and the proof that it still holds after one more turn.
 use Prim.Native.Nat.{ℕ, suc, _+_, _≤_, _<_}
 use native.Mathlib.Omega.{arith}
-use mathlib.Core.Path.{_≡_, refl, sym, subst}
-use mathlib.Core.List.{List}
+use mathlib.Core.Path.{_≡_, refl, sym, subst, ap, _∙_}
+use mathlib.Core.Bool.{true}
+use mathlib.Core.List.{List, _∷_}
+use lib.Dec.{leb}
 use lib.ListN.{length}
+use borrow.Author.Tests.{leb-true}
 use Rattle.book.specs.declared.Book.{Book}
 use Rattle.book.specs.Book.{Valid}
 use Rattle.lines.specs.declared.Taken.{Taken}
 use Rattle.lines.proofs.Bounds.{Within, taken-within}
 use Rattle.reading.specs.declared.Line.{Line}
+use Rattle.reading.specs.declared.Name.{Name}
+use Rattle.reading.specs.declared.Shape.{Shape}
 use Rattle.answers.specs.declared.Answer.{Answer}
 use Rattle.answers.specs.Text.{Tellable, answerText}
-use Rattle.answers.proofs.Tells.{answer-most}
+use Rattle.answers.specs.Told.{numbersTold}
+use Rattle.answers.proofs.Tells.{answer-most, numbers-tells}
+use Rattle.journal.specs.Calls.{Call}
+use Rattle.journal.specs.Played.{outcome}
 use Rattle.settle.specs.declared.calls.Asked.{Asked}
 use Rattle.settle.specs.declared.calls.Played.{Played}
 use Rattle.settle.specs.declared.flow.Course.{Course}
 use Rattle.settle.specs.declared.flow.Course.the-variants.{Going, Over, Failed}
 use Rattle.settle.specs.declared.flow.Flow.{Flow}
 use Rattle.settle.specs.Asked.{asks, noted}
-use Rattle.settle.specs.Calls.{atFirst}
+use Rattle.settle.specs.Calls.{played, atFirst, plain, askingOf, answerBy, wordsBy}
+use Rattle.settle.specs.Calls.Manner.{by-numbers}
 use Rattle.settle.specs.Flow.{FedOn, TakenOn, ToldOn}
 use Rattle.settle.specs.Turns.{Buffers, Gives, Held, begins, Reached, mostTurns, turnsLeft}
+use Rattle.settle.specs.Turns.Gives.{calling}
 use Rattle.settle.specs.Turns.Reached.{start, turn}
 use Rattle.settle.specs.Ending.{Plays}
 use Rattle.settle.proofs.Flows.{Kept, Ready}
@@ -84,6 +94,31 @@ given-by {b} {a} {ns} {ws} {p} {after} l q left e f g gives valid tells same = r
   tells = rw f tells;
   same = same;
 }
+
+-- the line of a call whose name is known
+pub call-line : {l : Line} {m name : Name} {shape : Shape} {n : ℕ} → l ≡ Line.Call m shape n → m ≡ name → l ≡ Line.Call name shape n
+call-line {shape = shape} {n = n} e f = e ∙ ap (λ (x : Name). Line.Call x shape n) f
+
+-- A call that is answered by numbers. `told` makes the book and the answer from what the call handed back.
+pub numbers-given : {R : Type 0} (told : R → Played) {b : Book} {a : Asked} {ns ws : List ℕ} {p : Played} {after : List ℕ}
+    {m name : Name} {shape : Shape} {n : ℕ} {c : Call} {r q : R}
+    → a .line ≡ Line.Call m shape n → m ≡ name → askingOf name a ns ≡ plain c
+    → p ≡ told r → r ≡ q → Valid (told r .book)
+    → told q ≡ played (outcome b c .book) (numbersTold (outcome b c .answer ∷ outcome b c .results))
+    → leb (length (outcome b c .results)) 6 ≡ true → after ≡ ws → Given b a ns ws p after
+unfolding answerBy wordsBy
+numbers-given told {b} {a} {ns} {ws} {p} {after} {m} {name} {shape} {n} {c} line named asks made is valid same few kept =
+    given-by (Line.Call name shape n) _ ws (call-line line named) (made ∙ ap told is ∙ same) kept
+    (calling name shape n (record { call = c; manner = by-numbers }) asks)
+    (subst (λ (x : Played). Valid (x .book)) (ap told is ∙ same) valid)
+    (numbers-tells (outcome b c .answer ∷ outcome b c .results) after (omega (arith, leb-true (length (outcome b c .results)) 6 few)))
+    (ap length kept)
+
+-- a line that leaves the book and the words as they were
+pub shown-given : {b : Book} {a : Asked} {ns ws : List ℕ} {p : Played} {after : List ℕ} {l : Line} {answer : Answer}
+    → a .line ≡ l → Gives b a ns ws l (played b answer) ws → p ≡ played b answer → after ≡ ws → Valid b
+    → Tellable answer after → Given b a ns ws p after
+shown-given line gives is kept valid tells = given-by _ _ _ line is kept gives valid tells (ap length kept)
 
 -- after a turn fewer turns are left
 pub fewer : (course : Course) (turns left : ℕ) → 0 < turns → left ≡ turnsLeft course turns → left < turns

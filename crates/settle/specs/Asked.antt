@@ -6,7 +6,7 @@ use lib.Seq.{sets}
 use Rattle.basics.specs.Choice.{pick}
 use Rattle.lines.specs.declared.Taken.{Taken}
 use Rattle.reading.specs.declared.Name.{Name}
-use Rattle.reading.specs.declared.Name.the-variants.{Open, Enter, Withdraw, Cancel, Deliver, Offer, Close, Month, Status, Account, Look, Rules}
+use Rattle.reading.specs.declared.Shape.{Shape}
 use Rattle.reading.specs.declared.Line.{Line}
 use Rattle.reading.specs.declared.Line.the-variants.{Call, Comment, NoCall}
 use Rattle.reading.specs.Calls.{mostListed}
@@ -46,33 +46,22 @@ askedWith line ns from to lent fill = record {
   fill = fill;
 }
 
--- A close or a month. The last two of its numbers say how many words it is lent and with what value they are filled.
--- The amounts of a month stand between its first number and these two.
-abbrev pub askedLent : Line → List ℕ → ℕ → Asked
-askedLent line ns count = askedWith line ns 1 (count - 2) (getD ns (count - 2) 0) (getD ns (count - 1) 0)
+-- A call that is lent words. The last two of its numbers say how many words it is lent and with what value they are
+-- filled.
+abbrev pub askedLent : Line → List ℕ → ℕ → ℕ → ℕ → Asked
+askedLent line ns from to count = askedWith line ns from to (getD ns (count - 2) 0) (getD ns (count - 1) 0)
 
--- a call without a list
-abbrev pub askedPlain : Line → List ℕ → Asked
-askedPlain line ns = askedWith line ns 0 0 0 0
-
--- what a call asks, by its name; the closed days of an open follow its first three numbers
-unfoldable pub askedCall : Name → ℕ → List ℕ → Asked
-askedCall Open count ns = askedWith (Call Open count) ns 3 count 0 0
-askedCall Enter count ns = askedPlain (Call Enter count) ns
-askedCall Withdraw count ns = askedPlain (Call Withdraw count) ns
-askedCall Cancel count ns = askedPlain (Call Cancel count) ns
-askedCall Deliver count ns = askedPlain (Call Deliver count) ns
-askedCall Offer count ns = askedPlain (Call Offer count) ns
-askedCall Close count ns = askedLent (Call Close count) ns count
-askedCall Month count ns = askedLent (Call Month count) ns count
-askedCall Status count ns = askedPlain (Call Status count) ns
-askedCall Account count ns = askedPlain (Call Account count) ns
-askedCall Look count ns = askedPlain (Call Look count) ns
-askedCall Rules count ns = askedPlain (Call Rules count) ns
+-- What a call asks, by its shape. Days follow the first three numbers. Amounts stand between the first number and the
+-- last two.
+unfoldable pub askedCall : Name → Shape → ℕ → List ℕ → Asked
+askedCall name (Shape.Plain k) count ns = askedWith (Call name (Shape.Plain k) count) ns 0 0 0 0
+askedCall name Shape.Days count ns = askedWith (Call name Shape.Days count) ns 3 count 0 0
+askedCall name (Shape.Lent k) count ns = askedLent (Call name (Shape.Lent k) count) ns 0 0 count
+askedCall name Shape.Amounts count ns = askedLent (Call name Shape.Amounts count) ns 1 (count - 2) count
 
 -- what a line asks, given the buffer for numbers, where those of the line stand first
 unfoldable pub askedOf : Line → List ℕ → Asked
-askedOf (Call name count) ns = askedCall name count ns
+askedOf (Call name shape count) ns = askedCall name shape count ns
 askedOf Comment ns = nothingAsked Comment
 askedOf NoCall ns = nothingAsked NoCall
 

@@ -1,9 +1,10 @@
--- The calls that lines ask for, each played on the book: the book that it hands back, and its answer. The names of the
--- arguments are those of docs/JOURNAL.md, Lines in, and the results are in the order of its chapter Lines out.
+-- The calls that lines ask for, each played on the book: the book that it hands back, and its answer. The arguments are in
+-- the order of docs/JOURNAL.md, Lines in, and the results are in the order of its chapter Lines out.
 use Prim.Native.Nat.{ℕ}
 use mathlib.Core.Path.{_≡_}
 use mathlib.Core.List.{List, [], _∷_, _++_}
-use lib.ListN.{drop, replicate}
+use mathlib.Core.Option.{Option, none, some}
+use lib.ListN.{getD, drop, replicate}
 use Rattle.basics.specs.Lists.{between}
 use Rattle.calendar.specs.Closed.{day}
 use Rattle.book.specs.declared.Book.{Book}
@@ -12,18 +13,16 @@ use Rattle.book.specs.declared.Entered.{Entered}
 use Rattle.book.specs.declared.Done.{Done}
 use Rattle.book.specs.declared.Cancelled.{Cancelled}
 use Rattle.book.specs.declared.Delivered.{Delivered}
-use Rattle.book.specs.declared.Closed.{Closed}
 use Rattle.book.specs.declared.Shown.{Shown}
 use Rattle.book.specs.declared.Balance.{Balance}
 use Rattle.book.specs.declared.Looked.{Looked}
 use Rattle.book.specs.Open.{opened}
-use Rattle.book.specs.Instructing.{enter, withdraw, cancel, deliver}
-use Rattle.book.specs.Buying.{offer}
-use Rattle.book.specs.Closing.{close, closeWords}
-use Rattle.book.specs.Month.{month, monthWords}
 use Rattle.book.specs.Reading.{status, account, Looks}
 use Rattle.answers.specs.declared.Answer.{Answer}
-use Rattle.answers.specs.Told.{nothing, numbersTold, statusTold, balanceTold, closedTold, paidTold}
+use Rattle.answers.specs.Told.{nothing, numbersTold, balanceTold, closedTold, paidTold}
+use Rattle.journal.specs.Calls.{Call}
+use Rattle.journal.specs.Played.{Outcome, outcome}
+use Rattle.reading.specs.declared.Name.{Name}
 use Rattle.settle.specs.declared.calls.Asked.{Asked}
 use Rattle.settle.specs.declared.calls.Played.{Played}
 
@@ -39,84 +38,99 @@ atFirst = played (opened (day 0) [] 2 .book) nothing
 abbrev pub listIn : Asked → List ℕ → List ℕ
 listIn a ns = between (a .from) (a .to) ns
 
+-- the words that a call is lent, each filled with the value of its line
+abbrev pub lentTo : Asked → List ℕ
+lentTo a = replicate (a .lent) (a .fill)
+
+-- how the outcome of a call is told: by numbers, by lines in the words that it was lent, or by payouts in these
+pub data Manner : Type 0 where
+  by-numbers : Manner
+  by-lines : Manner
+  by-payouts : Manner
+
+-- a call of a journal, and how its outcome is told
+pub record Asking : Type 0 where
+  pub call : Call
+  pub manner : Manner
+
+-- a call that is answered by numbers
+abbrev pub plain : Call → Option Asking
+plain c = some (record { call = c; manner = by-numbers })
+
+-- a close, which is lent words for its lines
+abbrev pub closeAsked : Asked → Asking
+closeAsked a = record { call = Call.close (a .first) (a .second) (lentTo a); manner = by-lines }
+
+-- a month, which is lent words for its payouts
+abbrev pub monthAsked : Asked → List ℕ → Asking
+monthAsked a ns = record { call = Call.month (listIn a ns) (lentTo a); manner = by-payouts }
+
+-- The call of a journal that a line asks for. An open begins another journal, and the others leave the book as it is.
+abbrev pub askingOf : Name → Asked → List ℕ → Option Asking
+askingOf Name.Open a ns = none
+askingOf Name.Enter a ns = plain (Call.enter (a .first) (a .second) (a .third) (a .fourth) (a .fifth) (day (a .sixth)))
+askingOf Name.Withdraw a ns = plain (Call.withdraw (a .first) (a .second))
+askingOf Name.Cancel a ns = plain (Call.cancel (a .first) (a .second))
+askingOf Name.Deliver a ns = plain (Call.deliver (a .first) (a .second))
+askingOf Name.Offer a ns = plain (Call.offer (a .first) (a .second) (a .third) (a .fourth))
+askingOf Name.Close a ns = some (closeAsked a)
+askingOf Name.Month a ns = some (monthAsked a ns)
+askingOf Name.Status a ns = none
+askingOf Name.Account a ns = none
+askingOf Name.Look a ns = none
+askingOf Name.Rules a ns = none
+
+-- the answer to a call: the answer number and the results, the lines, or the payouts
+unfoldable pub answerBy : Manner → Asked → Outcome → Answer
+answerBy by-numbers a o = numbersTold (o .answer ∷ o .results)
+answerBy by-lines a o = closedTold (o .answer) (getD (o .results) 0 0) (a .lent) (a .fill)
+answerBy by-payouts a o = paidTold (o .answer) (a .lent)
+
+-- the words after a call: those that it was lent are as it left them, and the others are as they were
+unfoldable pub wordsBy : Manner → Asked → Outcome → List ℕ → List ℕ
+wordsBy by-numbers a o ws = ws
+wordsBy by-lines a o ws = o .words ++ drop (a .lent) ws
+wordsBy by-payouts a o ws = o .words ++ drop (a .lent) ws
+
+-- the book and the answer after a call
+abbrev pub afterCall : Book → Asked → Asking → Played
+afterCall b a k = played (outcome b (k .call) .book) (answerBy (k .manner) a (outcome b (k .call)))
+
+-- the words after a call
+abbrev pub wordsAfter : Book → Asked → Asking → List ℕ → List ℕ
+wordsAfter b a k ws = wordsBy (k .manner) a (outcome b (k .call)) ws
+
 -- the book and the answer after an open
 abbrev pub afterOpen : Opened → Played
-afterOpen r = played (r .book) (numbersTold 1 (r .answer) 0 0)
+afterOpen r = played (r .book) (numbersTold (r .answer ∷ []))
 
 -- open: first day, terms, closed days
 abbrev pub opens : Asked → List ℕ → Played
 opens a ns = afterOpen (opened (day (a .first)) (listIn a ns) (a .second))
 
--- the book and the answer after an enter
-abbrev pub afterEnter : Entered → Played
-afterEnter r = played (r .book) (numbersTold 3 (r .answer) (r .leg) (r .obligation))
-
--- enter: member, other, side, quantity, amount, day
-abbrev pub enters : Book → Asked → Played
-enters b a = afterEnter (enter b (a .first) (a .second) (a .third) (a .fourth) (a .fifth) (day (a .sixth)))
-
 -- the book and the answer after a call whose only result is its answer number
 abbrev pub afterDone : Done → Played
-afterDone r = played (r .book) (numbersTold 1 (r .answer) 0 0)
+afterDone r = played (r .book) (numbersTold (r .answer ∷ []))
 
--- withdraw: leg, member
-abbrev pub withdraws : Book → Asked → Played
-withdraws b a = afterDone (withdraw b (a .first) (a .second))
+-- the book and the answer after an enter
+abbrev pub afterEnter : Entered → Played
+afterEnter r = played (r .book) (numbersTold (r .answer ∷ r .leg ∷ r .obligation ∷ []))
 
 -- the book and the answer after a cancel
 abbrev pub afterCancel : Cancelled → Played
-afterCancel r = played (r .book) (numbersTold 2 (r .answer) (r .moved) 0)
-
--- cancel: obligation, member
-abbrev pub cancels : Book → Asked → Played
-cancels b a = afterCancel (cancel b (a .first) (a .second))
+afterCancel r = played (r .book) (numbersTold (r .answer ∷ r .moved ∷ []))
 
 -- the book and the answer after a deliver
 abbrev pub afterDeliver : Delivered → Played
-afterDeliver r = played (r .book) (numbersTold 2 (r .answer) (r .cash) 0)
-
--- deliver: obligation, quantity
-abbrev pub delivers : Book → Asked → Played
-delivers b a = afterDeliver (deliver b (a .first) (a .second))
-
--- offer: obligation, supplier, quantity, price
-abbrev pub offers : Book → Asked → Played
-offers b a = afterDone (offer b (a .first) (a .second) (a .third) (a .fourth))
-
--- the words that a call is lent, each filled with the value of its line
-abbrev pub lentTo : Asked → List ℕ
-lentTo a = replicate (a .lent) (a .fill)
-
--- the book and the answer after a close
-abbrev pub afterClose : Asked → Closed → Played
-afterClose a r = played (r .book) (closedTold (r .answer) (r .count) (a .lent) (a .fill))
-
--- close: price, rate, and the words that are lent
-abbrev pub closes : Book → Asked → Played
-closes b a = afterClose a (close b (a .first) (a .second) (a .lent))
-
--- the words after a close: those that were lent are as the call left them, and the others are as they were
-abbrev pub closeWordsOf : Book → Asked → List ℕ → List ℕ
-closeWordsOf b a ws = closeWords b (a .first) (a .second) (lentTo a) ++ drop (a .lent) ws
-
--- the book and the answer after a month
-abbrev pub afterMonth : Asked → Done → Played
-afterMonth a r = played (r .book) (paidTold (r .answer) (a .lent))
-
--- month: the collected amounts, and the places for payouts
-abbrev pub months : Book → Asked → List ℕ → Played
-months b a ns = afterMonth a (month b (listIn a ns) (a .lent))
-
--- the words after a month: those that were lent are as the call left them, and the others are as they were
-abbrev pub monthWordsOf : Book → Asked → List ℕ → List ℕ → List ℕ
-monthWordsOf b a ns ws = monthWords b (listIn a ns) (lentTo a) ++ drop (a .lent) ws
+afterDeliver r = played (r .book) (numbersTold (r .answer ∷ r .cash ∷ []))
 
 -- the answer to a status
 abbrev pub shownAs : Shown → Answer
 shownAs r =
-    statusTold
+    numbersTold
     (r .answer ∷ r .quantity ∷ r .parts .delivered ∷ r .parts .«bought_in» ∷ r .parts .compensated
-    ∷ r .parts .cancelled ∷ r .parts .outstanding ∷ [])
+    ∷ r .parts .cancelled ∷ r .parts .outstanding
+    ∷ [])
 
 -- status: obligation
 abbrev pub shows : Book → Asked → Answer
@@ -130,11 +144,15 @@ balanceAs r = balanceTold (r .answer) (r .cents)
 abbrev pub balances : Book → Asked → Answer
 balances b a = balanceAs (account b (a .first))
 
+-- the answer to a look
+abbrev pub lookedAs : Looked → Answer
+lookedAs r = numbersTold (r .answer ∷ r .obligation ∷ [])
+
 -- look: member. The rules may allow more than one answer, and this is one that they allow.
 pub record LooksAs (b : Book) (a : Asked) (answer : Answer) : Type 0 where
   pub looked : Looked
   pub allowed : Looks b (a .first) looked
-  pub told : answer ≡ numbersTold 2 (looked .answer) (looked .obligation) 0
+  pub told : answer ≡ lookedAs looked
 
 -- the edition of the rules: the number of the latest change in docs/RULES.md
 abbrev pub edition : ℕ
@@ -142,4 +160,4 @@ edition = 0
 
 -- the answer to rules: 0 and the edition
 abbrev pub editionTold : Answer
-editionTold = numbersTold 2 0 edition 0
+editionTold = numbersTold (0 ∷ edition ∷ [])

@@ -2,10 +2,12 @@
 use Prim.Native.Nat.{ℕ, suc, _-_, _≤_, _<_}
 use mathlib.Core.Path.{_≡_}
 use mathlib.Core.List.{List}
+use mathlib.Core.Option.{some}
 use lib.ListN.{length}
 use Rattle.book.specs.declared.Book.{Book}
 use Rattle.lines.specs.declared.Taken.{Taken}
-use Rattle.reading.specs.declared.Name.the-variants.{Open, Enter, Withdraw, Cancel, Deliver, Offer, Close, Month, Status, Account, Look, Rules}
+use Rattle.reading.specs.declared.Name.{Name}
+use Rattle.reading.specs.declared.Shape.{Shape}
 use Rattle.reading.specs.declared.Line.{Line}
 use Rattle.reading.specs.declared.Line.the-variants.{Call, Comment, NoCall}
 use Rattle.reading.specs.Calls.{mostListed, mostNumbers}
@@ -19,8 +21,8 @@ use Rattle.settle.specs.declared.flow.Course.{Course}
 use Rattle.settle.specs.declared.flow.Course.the-variants.{Going, Over, Failed}
 use Rattle.settle.specs.declared.flow.Flow.{Flow}
 use Rattle.settle.specs.Asked.{asks, noted}
-use Rattle.settle.specs.Calls.{played, atFirst, opens, enters, withdraws, cancels, delivers, offers, closes}
-use Rattle.settle.specs.Calls.{closeWordsOf, months, monthWordsOf, shows, balances, LooksAs, editionTold}
+use Rattle.settle.specs.Calls.{played, atFirst, opens, Asking, askingOf, afterCall, wordsAfter}
+use Rattle.settle.specs.Calls.{shows, balances, LooksAs, editionTold}
 use Rattle.settle.specs.Flow.{atStart, FedOn, TakenOn, ToldOn}
 
 -- The buffers are large enough. The one for a line has room for more bytes than a call's line may have, so that a line
@@ -35,18 +37,14 @@ pub record Buffers (line numbers words out : List ℕ) : Type 0 where
 -- What a line does, given the book, the numbers of the line and the words that can be lent. The result is the book
 -- after the line, its answer, and the words as the line leaves them.
 pub data Gives (b : Book) (a : Asked) (ns ws : List ℕ) : Line → Played → List ℕ → Type 0 where
-  opening : (n : ℕ) → Gives b a ns ws (Call Open n) (opens a ns) ws
-  entering : (n : ℕ) → Gives b a ns ws (Call Enter n) (enters b a) ws
-  withdrawing : (n : ℕ) → Gives b a ns ws (Call Withdraw n) (withdraws b a) ws
-  cancelling : (n : ℕ) → Gives b a ns ws (Call Cancel n) (cancels b a) ws
-  delivering : (n : ℕ) → Gives b a ns ws (Call Deliver n) (delivers b a) ws
-  offering : (n : ℕ) → Gives b a ns ws (Call Offer n) (offers b a) ws
-  closing : (n : ℕ) → Gives b a ns ws (Call Close n) (closes b a) (closeWordsOf b a ws)
-  paying : (n : ℕ) → Gives b a ns ws (Call Month n) (months b a ns) (monthWordsOf b a ns ws)
-  showing : (n : ℕ) → Gives b a ns ws (Call Status n) (played b (shows b a)) ws
-  balancing : (n : ℕ) → Gives b a ns ws (Call Account n) (played b (balances b a)) ws
-  looking : (n : ℕ) (answer : Answer) → LooksAs b a answer → Gives b a ns ws (Call Look n) (played b answer) ws
-  ruling : (n : ℕ) → Gives b a ns ws (Call Rules n) (played b editionTold) ws
+  opening : (shape : Shape) (n : ℕ) → Gives b a ns ws (Call Name.Open shape n) (opens a ns) ws
+  calling : (name : Name) (shape : Shape) (n : ℕ) (k : Asking) → askingOf name a ns ≡ some k →
+      Gives b a ns ws (Call name shape n) (afterCall b a k) (wordsAfter b a k ws)
+  showing : (shape : Shape) (n : ℕ) → Gives b a ns ws (Call Name.Status shape n) (played b (shows b a)) ws
+  balancing : (shape : Shape) (n : ℕ) → Gives b a ns ws (Call Name.Account shape n) (played b (balances b a)) ws
+  looking : (shape : Shape) (n : ℕ) (answer : Answer) → LooksAs b a answer →
+      Gives b a ns ws (Call Name.Look shape n) (played b answer) ws
+  ruling : (shape : Shape) (n : ℕ) → Gives b a ns ws (Call Name.Rules shape n) (played b editionTold) ws
   passing : Gives b a ns ws Comment (played b nothing) ws
   objecting : Gives b a ns ws NoCall (played b noCall) ws
 

@@ -1,10 +1,18 @@
 // What a line asks, and the calls on the book that play it.
 use answers::Answer;
+use book::Balance;
 use book::Book;
+use book::Cancelled;
+use book::Delivered;
+use book::Done;
+use book::Entered;
+use book::Looked;
+use book::Shown;
 use calendar::Day;
 use lines::Taken;
 use reading::Line;
 use reading::Name;
+use reading::Shape;
 ghost use mathlib.Core.Path.{_≡_};
 ghost use mathlib.Core.Bool.{true};
 ghost use mathlib.Core.List.{_++_};
@@ -13,8 +21,8 @@ ghost use lib.ListN.{length, take, drop, replicate};
 ghost use Rattle.book.specs.Book.{Valid};
 ghost use Rattle.reading.specs.Calls.{mostNumbers, shapeRight};
 ghost use Rattle.settle.specs.Asked.{nothingAsked, askedWith, askedLent, askedCall, asks, noted, Listed};
-ghost use Rattle.settle.specs.Calls.{atFirst, opens, enters, withdraws, cancels, delivers, offers, closes};
-ghost use Rattle.settle.specs.Calls.{closeWordsOf, months, monthWordsOf, shows, balances, LooksAs, editionTold};
+ghost use Rattle.settle.specs.Calls.{atFirst, opens, afterDone, afterEnter, afterCancel, afterDeliver, afterCall, wordsAfter};
+ghost use Rattle.settle.specs.Calls.{closeAsked, monthAsked, shownAs, balanceAs, lookedAs, editionTold};
 
 // What a line asks. The first six numbers of the buffer are copied for every call; a call with fewer arguments does not
 // use the rest, which may be left from earlier lines. `from` and `to` are the places of the list of an open or a month.
@@ -78,28 +86,26 @@ fn asks_with(line: Line, n: &[u64], from: usize, to: usize, lent: usize, fill: u
     }
 }
 
-// A close or a month. Its last two numbers say how many words it is lent and with what value they are filled. The
-// amounts of a month stand before these two, from the second number on.
-fn asks_lent(line: Line, n: &[u64], count: usize) -> Asked
-    requires { ⌜ (3 ≤ count) × (count ≤ length (now n)) × (6 ≤ length (now n)) ⌝ }
-    ensures { λ r. ⌜ r ≡ askedLent line (now (n .entry)) count ⌝ }
+// A call that is lent words. Its last two numbers say how many and with what value they are filled.
+fn asks_lent(line: Line, n: &[u64], from: usize, to: usize, count: usize) -> Asked
+    requires { ⌜ (2 ≤ count) × (count ≤ length (now n)) × (6 ≤ length (now n)) ⌝ }
+    ensures { λ r. ⌜ r ≡ askedLent line (now (n .entry)) from to count ⌝ }
 {
-    let to = count - 2;
-    asks_with(line, n, 1, to, n[to] as usize, n[count - 1])
+    asks_with(line, n, from, to, n[count - 2] as usize, n[count - 1])
 }
 
 // A call whose arguments are the first count numbers.
-fn asks_call(name: Name, count: usize, n: &[u64]) -> Asked
+fn asks_call(name: Name, shape: Shape, count: usize, n: &[u64]) -> Asked
     requires { ⌜ mostNumbers ≤ length (now n) ⌝ }
-    requires { ⌜ (shapeRight name (take count (now n)) ≡ true) × (count ≤ length (now n)) ⌝ }
-    ensures { λ r. ⌜ r ≡ askedCall name count (now (n .entry)) ⌝ }
+    requires { ⌜ (shapeRight shape (take count (now n)) ≡ true) × (count ≤ length (now n)) ⌝ }
+    ensures { λ r. ⌜ r ≡ askedCall name shape count (now (n .entry)) ⌝ }
 {
-    let line = Line::Call(name, count);
-    match name {
-        Name::Open => asks_with(line, n, 3, count, 0, 0),
-        Name::Close => asks_lent(line, n, count),
-        Name::Month => asks_lent(line, n, count),
-        _ => asks_with(line, n, 0, 0, 0, 0),
+    let line = Line::Call(name, shape, count);
+    match shape {
+        Shape::Plain(_) => asks_with(line, n, 0, 0, 0, 0),
+        Shape::Days => asks_with(line, n, 3, count, 0, 0),
+        Shape::Lent(_) => asks_lent(line, n, 0, 0, count),
+        Shape::Amounts => asks_lent(line, n, 1, count - 2, count),
     }
 }
 
@@ -110,12 +116,12 @@ pub fn ask(taken: Taken, line: &[u8], n: &mut [u64]) -> Asked
     ensures { λ r. ⌜ now (n .exit) ≡ noted taken (now (line .entry)) (now (n .entry)) ⌝ }
     ensures { λ r. ⌜ Listed r (now (n .exit)) ⌝ }
 {
-    if taken.ends {} else {
+    if !taken.ends {
         return asks_nothing(Line::Comment);
     }
     let size = taken.size;
     match reading::read_line(&line[..size], n) {
-        Line::Call(name, count) => asks_call(name, count, n),
+        Line::Call(name, shape, count) => asks_call(name, shape, count, n),
         Line::Comment => asks_nothing(Line::Comment),
         Line::NoCall => asks_nothing(Line::NoCall),
     }
@@ -129,75 +135,59 @@ pub fn open(a: Asked, n: &[u64]) -> Played
     let from = a.from;
     let to = a.to;
     let done = Book::open(Day(a.first), &n[from..to], a.second);
+    let shown = [done.answer];
     let after = done.book;
     Played {
         book: after,
-        answer: Answer::numbers(1, done.answer, 0, 0),
+        answer: Answer::numbers(&shown),
     }
 }
 
-pub fn enter(book: Book, a: Asked) -> Played
-    requires { ⌜ Valid book ⌝ }
-    ensures { λ r. ⌜ r ≡ enters book a ⌝ }
-    ensures { λ r. ⌜ Valid (r .book) ⌝ }
+// What is answered to a call whose only result is its answer number.
+pub fn done(done: Done) -> Played
+    ensures { λ r. ⌜ r ≡ afterDone done ⌝ }
 {
-    let done = book.enter(a.first, a.second, a.third, a.fourth, a.fifth, Day(a.sixth));
+    let shown = [done.answer];
     let after = done.book;
     Played {
         book: after,
-        answer: Answer::numbers(3, done.answer, done.leg, done.obligation),
+        answer: Answer::numbers(&shown),
     }
 }
 
-pub fn withdraw(book: Book, a: Asked) -> Played
-    requires { ⌜ Valid book ⌝ }
-    ensures { λ r. ⌜ r ≡ withdraws book a ⌝ }
-    ensures { λ r. ⌜ Valid (r .book) ⌝ }
+// What is answered to an enter.
+pub fn entered(done: Entered) -> Played
+    ensures { λ r. ⌜ r ≡ afterEnter done ⌝ }
 {
-    let done = book.withdraw(a.first, a.second);
+    let shown = [done.answer, done.leg, done.obligation];
     let after = done.book;
     Played {
         book: after,
-        answer: Answer::numbers(1, done.answer, 0, 0),
+        answer: Answer::numbers(&shown),
     }
 }
 
-pub fn cancel(book: Book, a: Asked) -> Played
-    requires { ⌜ Valid book ⌝ }
-    ensures { λ r. ⌜ r ≡ cancels book a ⌝ }
-    ensures { λ r. ⌜ Valid (r .book) ⌝ }
+// What is answered to a cancel.
+pub fn cancelled(done: Cancelled) -> Played
+    ensures { λ r. ⌜ r ≡ afterCancel done ⌝ }
 {
-    let done = book.cancel(a.first, a.second);
+    let shown = [done.answer, done.moved];
     let after = done.book;
     Played {
         book: after,
-        answer: Answer::numbers(2, done.answer, done.moved, 0),
+        answer: Answer::numbers(&shown),
     }
 }
 
-pub fn deliver(book: Book, a: Asked) -> Played
-    requires { ⌜ Valid book ⌝ }
-    ensures { λ r. ⌜ r ≡ delivers book a ⌝ }
-    ensures { λ r. ⌜ Valid (r .book) ⌝ }
+// What is answered to a deliver.
+pub fn delivered(done: Delivered) -> Played
+    ensures { λ r. ⌜ r ≡ afterDeliver done ⌝ }
 {
-    let done = book.deliver(a.first, a.second);
+    let shown = [done.answer, done.cash];
     let after = done.book;
     Played {
         book: after,
-        answer: Answer::numbers(2, done.answer, done.cash, 0),
-    }
-}
-
-pub fn offer(book: Book, a: Asked) -> Played
-    requires { ⌜ Valid book ⌝ }
-    ensures { λ r. ⌜ r ≡ offers book a ⌝ }
-    ensures { λ r. ⌜ Valid (r .book) ⌝ }
-{
-    let done = book.offer(a.first, a.second, a.third, a.fourth);
-    let after = done.book;
-    Played {
-        book: after,
-        answer: Answer::numbers(1, done.answer, 0, 0),
+        answer: Answer::numbers(&shown),
     }
 }
 
@@ -215,8 +205,8 @@ fn fill(words: &mut [u64], count: usize, value: u64)
 
 pub fn close(book: Book, a: Asked, words: &mut [u64]) -> Played
     requires { ⌜ (Valid book) × (a .lent ≤ length (now words)) ⌝ }
-    ensures { λ r. ⌜ r ≡ closes book a ⌝ }
-    ensures { λ r. ⌜ now (words .exit) ≡ closeWordsOf book a (now (words .entry)) ⌝ }
+    ensures { λ r. ⌜ r ≡ afterCall book a (closeAsked a) ⌝ }
+    ensures { λ r. ⌜ now (words .exit) ≡ wordsAfter book a (closeAsked a) (now (words .entry)) ⌝ }
     ensures { λ r. ⌜ Valid (r .book) ⌝ }
 {
     let lent = a.lent;
@@ -231,8 +221,8 @@ pub fn close(book: Book, a: Asked, words: &mut [u64]) -> Played
 
 pub fn month(book: Book, a: Asked, n: &[u64], words: &mut [u64]) -> Played
     requires { ⌜ (Valid book) × (Listed a (now n)) × (a .lent ≤ length (now words)) ⌝ }
-    ensures { λ r. ⌜ r ≡ months book a (now (n .entry)) ⌝ }
-    ensures { λ r. ⌜ now (words .exit) ≡ monthWordsOf book a (now (n .entry)) (now (words .entry)) ⌝ }
+    ensures { λ r. ⌜ r ≡ afterCall book a (monthAsked a (now (n .entry))) ⌝ }
+    ensures { λ r. ⌜ now (words .exit) ≡ wordsAfter book a (monthAsked a (now (n .entry))) (now (words .entry)) ⌝ }
     ensures { λ r. ⌜ Valid (r .book) ⌝ }
 {
     let lent = a.lent;
@@ -247,14 +237,12 @@ pub fn month(book: Book, a: Asked, n: &[u64], words: &mut [u64]) -> Played
     }
 }
 
-// Status, Account and Look hand back the book unchanged, so the program keeps the one that it has.
-pub fn status(book: Book, a: Asked) -> Answer
-    requires { ⌜ Valid book ⌝ }
-    ensures { λ r. ⌜ r ≡ shows book a ⌝ }
+// What is answered to a status.
+pub fn shown(shown: Shown) -> Answer
+    ensures { λ r. ⌜ r ≡ shownAs shown ⌝ }
 {
-    let shown = book.status(a.first);
     let parts = shown.parts;
-    Answer::seven([
+    let numbers = [
         shown.answer,
         shown.quantity,
         parts.delivered,
@@ -262,23 +250,23 @@ pub fn status(book: Book, a: Asked) -> Answer
         parts.compensated,
         parts.cancelled,
         parts.outstanding,
-    ])
+    ];
+    Answer::numbers(&numbers)
 }
 
-pub fn account(book: Book, a: Asked) -> Answer
-    requires { ⌜ Valid book ⌝ }
-    ensures { λ r. ⌜ r ≡ balances book a ⌝ }
+// What is answered to an account.
+pub fn balance(balance: Balance) -> Answer
+    ensures { λ r. ⌜ r ≡ balanceAs balance ⌝ }
 {
-    let balance = book.account(a.first);
     Answer::balance(balance.answer, balance.cents)
 }
 
-pub fn look(book: Book, a: Asked) -> Answer
-    requires { ⌜ Valid book ⌝ }
-    ensures { λ r. ⌜ LooksAs book a r ⌝ }
+// What is answered to a look.
+pub fn looked(looked: Looked) -> Answer
+    ensures { λ r. ⌜ r ≡ lookedAs looked ⌝ }
 {
-    let looked = book.look(a.first);
-    Answer::numbers(2, looked.answer, looked.obligation, 0)
+    let numbers = [looked.answer, looked.obligation];
+    Answer::numbers(&numbers)
 }
 
 // The edition of the rules that the book follows: the number of the latest change in docs/RULES.md.
@@ -287,7 +275,8 @@ pub const EDITION: u64 = 0;
 pub fn rules() -> Answer
     ensures { λ r. ⌜ r ≡ editionTold ⌝ }
 {
-    Answer::numbers(2, 0, EDITION, 0)
+    let numbers = [0, EDITION];
+    Answer::numbers(&numbers)
 }
 
 // Before the first line the book is the one that a refused Open returns.

@@ -1,6 +1,7 @@
 // Bytes in and out: where the input and the output stand from one turn to the next, and what reads and writes do to
 // them.
 use answers::Answer;
+use answers::MOST_ANSWER;
 use libc::STDIN_FILENO;
 use libc::STDOUT_FILENO;
 use lines::Feed;
@@ -122,7 +123,7 @@ pub fn feed_on(flow: Flow, part: &mut [u8], out: &[u8]) -> Flow
         }
         return failed(feed);
     }
-    if flow.end <= out.len() - 90_212 {
+    if flow.end <= out.len() - MOST_ANSWER {
         return flow;
     }
     if write_out(out, flow.end) {

@@ -2,6 +2,7 @@
 // at a time, so its memory does not grow with the journal. Whenever its input is used up, it writes all answers so far.
 // With an argument on its command line it says what it is and plays nothing.
 use answers::Answer;
+use calendar::Day;
 use flow::Course;
 use libc::STDOUT_FILENO;
 use reading::Line;
@@ -50,21 +51,34 @@ fn settle_all(
     while 0 < turns {
         let fed = flow::feed_on(flow, part, out);
         let taken = flow::take(fed, part, line);
-        let asked = calls::ask(taken, line, numbers);
-        let kind = asked.line;
+        let a = calls::ask(taken, line, numbers);
+        let kind = a.line;
         match kind {
-            Line::Call(name, _) => match name {
-                Name::Open => played = calls::open(asked, numbers),
-                Name::Enter => played = calls::enter(played.book, asked),
-                Name::Withdraw => played = calls::withdraw(played.book, asked),
-                Name::Cancel => played = calls::cancel(played.book, asked),
-                Name::Deliver => played = calls::deliver(played.book, asked),
-                Name::Offer => played = calls::offer(played.book, asked),
-                Name::Close => played = calls::close(played.book, asked, words),
-                Name::Month => played = calls::month(played.book, asked, numbers, words),
-                Name::Status => played.answer = calls::status(played.book, asked),
-                Name::Account => played.answer = calls::account(played.book, asked),
-                Name::Look => played.answer = calls::look(played.book, asked),
+            Line::Call(name, _, _) => match name {
+                Name::Open => played = calls::open(a, numbers),
+                Name::Enter => {
+                    played = calls::entered(
+                        played.book.enter(
+                            a.first,
+                            a.second,
+                            a.third,
+                            a.fourth,
+                            a.fifth,
+                            Day(a.sixth),
+                        ),
+                    )
+                }
+                Name::Withdraw => played = calls::done(played.book.withdraw(a.first, a.second)),
+                Name::Cancel => played = calls::cancelled(played.book.cancel(a.first, a.second)),
+                Name::Deliver => played = calls::delivered(played.book.deliver(a.first, a.second)),
+                Name::Offer => {
+                    played = calls::done(played.book.offer(a.first, a.second, a.third, a.fourth))
+                }
+                Name::Close => played = calls::close(played.book, a, words),
+                Name::Month => played = calls::month(played.book, a, numbers, words),
+                Name::Status => played.answer = calls::shown(played.book.status(a.first)),
+                Name::Account => played.answer = calls::balance(played.book.account(a.first)),
+                Name::Look => played.answer = calls::looked(played.book.look(a.first)),
                 Name::Rules => played.answer = calls::rules(),
             },
             Line::Comment => played.answer = Answer::nothing(),
@@ -79,31 +93,39 @@ fn settle_all(
 
 // Places for the bytes of a line. There is one more than a call's line may have bytes, so that a line that is too long
 // can be told from one that is not.
-fn line_places() -> [u8; 65537]
+const LINE_PLACES: usize = 65_537;
+
+fn line_places() -> [u8; LINE_PLACES]
     ensures { λ r. ⌜ 65537 ≡ length r ⌝ }
 {
-    [0; 65537]
+    [0; LINE_PLACES]
 }
 
 // Places for the numbers of a line.
-fn number_places() -> [u64; 4104]
+const NUMBER_PLACES: usize = 4_104;
+
+fn number_places() -> [u64; NUMBER_PLACES]
     ensures { λ r. ⌜ 4104 ≡ length r ⌝ }
 {
-    [0; 4104]
+    [0; NUMBER_PLACES]
 }
 
 // Places for the words that a Close is lent, and for the payouts of a Month.
-fn word_places() -> [u64; 4096]
+const WORD_PLACES: usize = 4_096;
+
+fn word_places() -> [u64; WORD_PLACES]
     ensures { λ r. ⌜ 4096 ≡ length r ⌝ }
 {
-    [0; 4096]
+    [0; WORD_PLACES]
 }
 
-// Places for the answers, none of which takes more than 90,212 bytes.
-fn answer_places() -> [u8; 131072]
+// Places for the answers. There are more than the longest answer takes.
+const ANSWER_PLACES: usize = 131_072;
+
+fn answer_places() -> [u8; ANSWER_PLACES]
     ensures { λ r. ⌜ 131072 ≡ length r ⌝ }
 {
-    [0; 131072]
+    [0; ANSWER_PLACES]
 }
 
 // Plays the journal, and writes what is left of the output.
@@ -123,14 +145,14 @@ fn say(text: &[u8]) -> bool {
 }
 
 // Says what the program is, where its format is described, what it was proved with, and which edition of the rules it
-// follows. `.ci/edges` compares the kit that is named here with the kit of the toolchain.
+// follows. `.ci/edges` says so if the kit that is named here is not that of the toolchain at hand.
 fn tell_about() {
     let said = say(
         b"settle plays a journal of the settlement-discipline book of one bond: it reads\n",
     )
         && say(b"calls from standard input and writes their answers to standard output.\n")
         && say(b"format: docs/JOURNAL.md; in the operations room: docs/OPERATIONS.md\n")
-        && say(b"proved with: rattle-kit-5b logic 064da1ca440f63e7\n")
+        && say(b"proved with: rattle-kit-5b-plain logic 097e4c862dff5811\n")
         && say(b"rules: edition ")
         && io::print_decimal(STDOUT_FILENO, calls::EDITION)
         && say(b"\n");

@@ -1,11 +1,15 @@
 -- `month` meets its contract.
-use mathlib.Core.List.{_++_}
+use Prim.Native.Nat.{ℕ}
+use lib.ListN.{length}
+use mathlib.Core.List.{List, _++_}
 use mathlib.Core.Path.{sym, ap, ap₂, _∙_}
 use borrow.Author.Needs.{needs}
 use Rattle.settle.proofs.Lending.{filled-front, filled-rest, filled-length}
-use Rattle.settle.specs.Calls.{played, listIn, afterMonth}
+use Rattle.settle.specs.Calls.{played, listIn, answerBy, wordsBy}
+use Rattle.settle.specs.declared.calls.Played.{Played}
 use Rattle.book.specs.Month.{month, monthWords}
-use Rattle.answers.specs.declared.Answer.{Answer}
+use Rattle.book.specs.declared.Done.{Done}
+use Rattle.answers.specs.Told.{paidTold}
 use Rattle.settle.proofs.calls.month.Statement.{statement}
 use Rattle.settle.proofs.calls.month.Tie as tie
 
@@ -40,13 +44,20 @@ same-length : tie.Need-same-length
 same-length c = search needs
 
 returns : tie.Need-returns
-returns c = let s = c .before .before .before .before .before .before .before .before .before .before .before .before .before in let a = s .args .a in let done = c .before .before .before .before .month in let f = c .before .before .before .before .before .before .before .before .before .fill .ensures in
+unfolding answerBy wordsBy
+returns c =
+    let s = c .before .before .before .before .before .before .before .before .before .before .before .before .before in
+    let a = s .args .a in
+    let done = c .before .before .before .before .month in
+    let f = c .before .before .before .before .before .before .before .before .before .fill .ensures in
     let front = filled-front (a .lent) (a .fill) (s .args .words .now) _ f in
-    let given = listIn a (s .args .n .now) in (
-      ap (λ (x : Answer). played (done .result .book) x) (c .paid .ensures)
-          ∙ ap (afterMonth a) (done .ensures .0 ∙ ap (month (s .args .book) given) (filled-length (a .lent) (a .fill) (s .args .words .now) _ f)),
+    let given = listIn a (s .args .n .now) in
+    let told : Done → Played = λ (r : Done). played (r .book) (paidTold (r .answer) (a .lent)) in (
+      ap (played (done .result .book)) (c .paid .ensures)
+          ∙ ap told (done .ensures .0 ∙ ap (λ (ws : List ℕ). month (s .args .book) given (length ws)) front),
       (
-        ap₂ _++_ (done .ensures .1 .0 ∙ ap (monthWords (s .args .book) given) front) (filled-rest (a .lent) (a .fill) (s .args .words .now) _ f),
+        ap₂ _++_ (done .ensures .1 .0 ∙ ap (monthWords (s .args .book) given) front)
+            (filled-rest (a .lent) (a .fill) (s .args .words .now) _ f),
         done .ensures .1 .1 .0,
       ),
     )

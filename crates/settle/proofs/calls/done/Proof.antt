@@ -1,0 +1,14 @@
+-- `done` meets its contract.
+use mathlib.Core.Path.{ap}
+use borrow.Author.Needs.{needs}
+use Rattle.settle.specs.Calls.{played}
+use Rattle.settle.proofs.calls.done.Statement.{statement}
+use Rattle.settle.proofs.calls.done.Tie as tie
+
+pub done-spec : {M : Type 1} → statement M
+done-spec =
+    tie.close
+    (tie.spec
+    (λ c. search needs)
+    (λ c κs. search needs)
+    (λ c. ap (played (c .before .before .before .args .done .book)) (c .numbers .ensures)))
