@@ -26,10 +26,11 @@ NEED = re.compile(r"^`([^`]*)`:|\(`([^`]*)`\)$")
 # An error that only follows from another one.
 FOLLOWS = "was not admitted (it has holes or undetermined implicits, or was rejected)"
 # What is said where a proof no longer fits the code: a need, or an argument of an invariant, is gone or has another
-# name. Such a refusal says nothing on the contract. Neither does an error in what ends a proof, which only lists the
-# needs in their order.
+# name. Such a refusal says nothing on the contract. Neither does an error in what ends a proof, where that lists the
+# needs in their order and one stands at the place of another; it may also answer needs itself.
 UNFIT = ("can be named from here", "this pattern needs a function (or path) type to bind")
 LISTING = "-spec"
+MISPLACED = "Need-"
 
 # Set once another job has failed: nothing more is to be tried.
 STOPPING = threading.Event()
@@ -118,7 +119,7 @@ def refusal(said, folder):
     place = place.replace(str(folder) + "/", "")
     need = NEED.search(what)
     name = need and (need[1] or need[2])
-    shape = any(words in what for words in UNFIT) or (name or "").endswith(LISTING)
+    shape = any(words in what for words in UNFIT) or ((name or "").endswith(LISTING) and MISPLACED in what)
     return Outcome("refused", f"{place} ({name})" if name else place, shape)
 
 
