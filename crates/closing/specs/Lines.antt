@@ -12,16 +12,19 @@ use Rattle.closing.specs.declared.Closing.{Closing}
 abbrev pub mostLines : ℕ
 mostLines = 192
 
--- C12, Close: the kinds of a line: a penalty, a notice, a quantity bought in, and compensation
+-- C12, Close: a penalty is a line of kind 1
 abbrev pub penaltyKind : ℕ
 penaltyKind = 1
 
+-- C12, Close: a notice is a line of kind 2
 abbrev pub noticeKind : ℕ
 noticeKind = 2
 
+-- C12, Close: what was bought in is a line of kind 3
 abbrev pub boughtKind : ℕ
 boughtKind = 3
 
+-- C12, Close: what was compensated is a line of kind 4
 abbrev pub compensationKind : ℕ
 compensationKind = 4
 
