@@ -35,7 +35,7 @@ use Rattle.book.specs.Instructing.{newLeg, enteredAlone, enteredWith, en
 use Rattle.book.specs.Buying.{offerRefusalsFor, offerRefusals, offerDone, offer}
 use Rattle.book.specs.Close.{nextDay, closeRefused, closeBy, close}
 use Rattle.book.specs.Month.{month}
-use Rattle.book.specs.Reading.{statusRefusals, statusRefused, statusDone, status, accountRefused, account, Looks}
+use Rattle.book.specs.Showing.{statusRefusals, statusRefused, statusDone, status, accountRefused, account, Looks}
 
 pub open-refuses : (first : Day) (ds : List ℕ) (terms : ℕ) → Refuses (openRefusals first ds terms) (opened first ds terms .answer)
 unfolding opened openRefusals

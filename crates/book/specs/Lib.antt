@@ -4,4 +4,4 @@ pub mod Instructing
 pub mod Buying
 pub mod Close
 pub mod Month
-pub mod Reading
+pub mod Showing

@@ -11,7 +11,7 @@ mod close;
 mod instructing;
 mod month;
 mod open;
-mod reading;
+mod showing;
 
 // What the days have brought: the day that it is, and what a Close leaves for the Month after it.
 pub struct BookDay {

@@ -24,7 +24,7 @@ use Rattle.book.specs.declared.Book.{Book}
 use Rattle.book.specs.declared.Shown.{Shown}
 use Rattle.book.specs.declared.Balance.{Balance}
 use Rattle.book.specs.declared.Looked.{Looked}
-use Rattle.book.specs.Reading.{status, account, statusRefused, statusDone, accountRefused, isLate, LooksAt, Looks}
+use Rattle.book.specs.Showing.{status, account, statusRefused, statusDone, accountRefused, isLate, LooksAt, Looks}
 use Rattle.journal.specs.Calls.{Opening, Event}
 use Rattle.journal.specs.Facts.{Instructed}
 use Rattle.journal.specs.Sums.{instructedIn}

@@ -17,7 +17,8 @@ use Rattle.book.specs.declared.Shown.{Shown}
 use Rattle.book.specs.declared.Balance.{Balance}
 use Rattle.book.specs.declared.Looked.{Looked}
 use Rattle.book.specs.Open.{opened}
-use Rattle.book.specs.Reading.{status, account, Looks}
+use Rattle.book.specs.Instructing.{enter}
+use Rattle.book.specs.Showing.{status, account, Looks}
 use Rattle.answers.specs.declared.Answer.{Answer}
 use Rattle.answers.specs.Told.{nothing, numbersTold, balanceTold, closedTold, paidTold}
 use Rattle.journal.specs.Calls.{Call}
@@ -108,13 +109,17 @@ afterOpen r = played (r .book) (numbersTold (r .answer ∷ []))
 abbrev pub opens : Asked → List ℕ → Played
 opens a ns = afterOpen (opened (day (a .first)) (listIn a ns) (a .second))
 
--- the book and the answer after a call whose only result is its answer number
-abbrev pub afterDone : Done → Played
-afterDone r = played (r .book) (numbersTold (r .answer ∷ []))
-
 -- the book and the answer after an enter
 abbrev pub afterEnter : Entered → Played
 afterEnter r = played (r .book) (numbersTold (r .answer ∷ r .leg ∷ r .obligation ∷ []))
+
+-- enter: member, counterparty, side, quantity, amount, intended day
+abbrev pub enters : Book → Asked → Played
+enters b a = afterEnter (enter b (a .first) (a .second) (a .third) (a .fourth) (a .fifth) (day (a .sixth)))
+
+-- the book and the answer after a call whose only result is its answer number
+abbrev pub afterDone : Done → Played
+afterDone r = played (r .book) (numbersTold (r .answer ∷ []))
 
 -- the book and the answer after a cancel
 abbrev pub afterCancel : Cancelled → Played

@@ -5,7 +5,6 @@ use book::Book;
 use book::Cancelled;
 use book::Delivered;
 use book::Done;
-use book::Entered;
 use book::Looked;
 use book::Shown;
 use calendar::Day;
@@ -21,7 +20,7 @@ ghost use lib.ListN.{length, take, drop, replicate};
 ghost use Rattle.book.specs.Book.{Valid};
 ghost use Rattle.reading.specs.Calls.{mostNumbers, shapeRight};
 ghost use Rattle.settle.specs.Asked.{nothingAsked, askedWith, askedLent, askedCall, asks, noted, Listed};
-ghost use Rattle.settle.specs.Calls.{atFirst, opens, afterDone, afterEnter, afterCancel, afterDeliver, afterCall, wordsAfter};
+ghost use Rattle.settle.specs.Calls.{atFirst, opens, enters, afterDone, afterCancel, afterDeliver, afterCall, wordsAfter};
 ghost use Rattle.settle.specs.Calls.{closeAsked, monthAsked, shownAs, balanceAs, lookedAs, editionTold};
 
 // What a line asks. The first six numbers of the buffer are copied for every call; a call with fewer arguments does not
@@ -143,11 +142,14 @@ pub fn open(a: Asked, n: &[u64]) -> Played
     }
 }
 
-// What is answered to a call whose only result is its answer number.
-pub fn done(done: Done) -> Played
-    ensures { λ r. ⌜ r ≡ afterDone done ⌝ }
+// An enter has a function of its own, because its arguments would make the loop over the lines hard to read.
+pub fn enter(book: Book, a: Asked) -> Played
+    requires { ⌜ Valid book ⌝ }
+    ensures { λ r. ⌜ r ≡ enters book a ⌝ }
+    ensures { λ r. ⌜ Valid (r .book) ⌝ }
 {
-    let shown = [done.answer];
+    let done = book.enter(a.first, a.second, a.third, a.fourth, a.fifth, Day(a.sixth));
+    let shown = [done.answer, done.leg, done.obligation];
     let after = done.book;
     Played {
         book: after,
@@ -155,11 +157,11 @@ pub fn done(done: Done) -> Played
     }
 }
 
-// What is answered to an enter.
-pub fn entered(done: Entered) -> Played
-    ensures { λ r. ⌜ r ≡ afterEnter done ⌝ }
+// What is answered to a call whose only result is its answer number.
+pub fn done(done: Done) -> Played
+    ensures { λ r. ⌜ r ≡ afterDone done ⌝ }
 {
-    let shown = [done.answer, done.leg, done.obligation];
+    let shown = [done.answer];
     let after = done.book;
     Played {
         book: after,

@@ -2,7 +2,6 @@
 // at a time, so its memory does not grow with the journal. Whenever its input is used up, it writes all answers so far.
 // With an argument on its command line it says what it is and plays nothing.
 use answers::Answer;
-use calendar::Day;
 use flow::Course;
 use libc::STDOUT_FILENO;
 use reading::Line;
@@ -56,18 +55,7 @@ fn settle_all(
         match kind {
             Line::Call(name, _, _) => match name {
                 Name::Open => played = calls::open(a, numbers),
-                Name::Enter => {
-                    played = calls::entered(
-                        played.book.enter(
-                            a.first,
-                            a.second,
-                            a.third,
-                            a.fourth,
-                            a.fifth,
-                            Day(a.sixth),
-                        ),
-                    )
-                }
+                Name::Enter => played = calls::enter(played.book, a),
                 Name::Withdraw => played = calls::done(played.book.withdraw(a.first, a.second)),
                 Name::Cancel => played = calls::cancelled(played.book.cancel(a.first, a.second)),
                 Name::Deliver => played = calls::delivered(played.book.deliver(a.first, a.second)),

@@ -15,7 +15,7 @@ use Rattle.answers.proofs.Tells.{nothing-tells, no-call-tells, numbers-tells, b
 use Rattle.settle.specs.declared.flow.Flow.{Flow}
 use Rattle.settle.specs.declared.calls.Asked.{Asked}
 use Rattle.settle.specs.declared.calls.Played.{Played}
-use Rattle.settle.specs.Calls.{played, lentTo, afterDone, afterEnter, afterCancel, afterDeliver, afterCall, closeAsked, monthAsked, shownAs, balanceAs, answerBy}
+use Rattle.settle.specs.Calls.{played, lentTo, afterDone, afterCancel, afterDeliver, afterCall, closeAsked, monthAsked, shownAs, balanceAs, answerBy}
 use Rattle.settle.specs.Turns.{Held, begins}
 use Rattle.settle.specs.Turns.Gives.{opening, calling, showing, balancing, looking, ruling, passing, objecting}
 use Rattle.settle.proofs.Turning.{Stands, standing, stopped, Given, given-by, call-line, numbers-given, shown-given, turned, fewer, took-within}
@@ -98,7 +98,7 @@ given : (c : tie.At-match-came Inv-loop μ-loop)
 given c =
     let s = c .before in
     cases (c .match .came) (λ x. given-by _ _ _ (call-line (x .1 .given .1) (x .4 .given .1)) (x .8 ∙ x .6 .ensures .0) (x .7) (opening _ _) (rw (x .6 .ensures .0) at (x .6 .ensures .1)) (numbers-tells _ _ (omega arith)) (ap length (x .7)))
-    (λ y. cases y (λ x. numbers-given afterEnter (x .1 .given .1) (x .4 .given .1) refl (x .8 ∙ x .6 .ensures) (x .5 .ensures .0) (x .5 .ensures .1) refl refl (x .7))
+    (λ y. cases y (λ x. numbers-given (λ (p : Played). p) (x .1 .given .1) (x .4 .given .1) refl (x .7) (x .5 .ensures .0) (x .5 .ensures .1) refl refl (x .6))
     (λ y. cases y (λ x. numbers-given afterDone (x .1 .given .1) (x .4 .given .1) refl (x .8 ∙ x .6 .ensures) (x .5 .ensures .0) (x .5 .ensures .1) refl refl (x .7))
     (λ y. cases y (λ x. numbers-given afterCancel (x .1 .given .1) (x .4 .given .1) refl (x .8 ∙ x .6 .ensures) (x .5 .ensures .0) (x .5 .ensures .1) refl refl (x .7))
     (λ y. cases y (λ x. numbers-given afterDeliver (x .1 .given .1) (x .4 .given .1) refl (x .8 ∙ x .6 .ensures) (x .5 .ensures .0) (x .5 .ensures .1) refl refl (x .7))
@@ -216,7 +216,7 @@ settle-all-spec =
     ask-requires
     (λ c. search needs)
     (λ c. search needs) open-requires
-    (λ c. search needs) (λ c κs. valid (c .before .before .before .before .before)) (λ c κs. search needs)
+    (λ c. search needs) (λ c κs. valid (c .before .before .before .before .before))
     (λ c. search needs) (λ c κs. valid (c .before .before .before .before .before)) (λ c κs. search needs)
     (λ c. search needs) (λ c κs. valid (c .before .before .before .before .before)) (λ c κs. search needs)
     (λ c. search needs) (λ c κs. valid (c .before .before .before .before .before)) (λ c κs. search needs)

@@ -7,7 +7,7 @@ use mathlib.Core.Path.{_≡_, sym, _∙_}
 use lib.ListN.{getD}
 use borrow.Author.Count.{below-more}
 use borrow.Author.Needs.{needs}
-use Rattle.book.specs.Reading.{isLate, none, some}
+use Rattle.book.specs.Showing.{isLate, none, some}
 use Rattle.ledger.specs.Obligations.{noObligation}
 use Rattle.book.proofs.Book.late_of.Statement.{statement}
 use Rattle.book.proofs.Book.late_of.Tie as tie

@@ -12,7 +12,7 @@ ghost use mathlib.Core.Path.{_≡_};
 ghost use Prim.Native.Nat.{_≤_};
 ghost use Rattle.ledger.specs.Ledger.{mostObligations};
 ghost use Rattle.book.specs.Book.{Valid};
-ghost use Rattle.book.specs.Reading.{status, account, isLate, LooksAt, Looks};
+ghost use Rattle.book.specs.Showing.{status, account, isLate, LooksAt, Looks};
 
 // Whether a member sells an obligation that is late: due before today, with something outstanding.
 fn is_late(today: Day, member: u64, o: Obligation) -> bool

@@ -1,8 +1,8 @@
 -- `is_late` meets its contract.
 use borrow.Author.Tests.{lt-ltb, le-ltb, eq-eqb, ne-eqb}
-use Rattle.book.specs.Reading.{isLate}
-use Rattle.book.proofs.reading.is_late.Statement.{statement}
-use Rattle.book.proofs.reading.is_late.Tie as tie
+use Rattle.book.specs.Showing.{isLate}
+use Rattle.book.proofs.showing.is_late.Statement.{statement}
+use Rattle.book.proofs.showing.is_late.Tie as tie
 
 returns : tie.Need-returns
 unfolding isLate
