@@ -2,9 +2,9 @@
 use std::hint::black_box;
 use std::time::Instant;
 
-// The bytes of a book as the engine lays it out: closed days, terms, today, the flag, 128 legs, 64 obligations, 64
-// offers, 32 accounts.
-const BOOK: usize = 520 + 24 + 8 + 8 + (128 * 64 + 8) + (64 * 96 + 8 + (64 * 32 + 8) + 256);
+// The bytes of a book as the engine lays it out: 128 legs, 64 obligations, 64 offers, 32 accounts, closed days, terms,
+// today and the flag. A count stands behind each array but the accounts.
+const BOOK: usize = (128 * 32 + 8) + (64 * 56 + 8 + (64 * 12 + 8) + 256) + (64 * 8 + 8 + 24) + (8 + 8);
 
 #[inline(never)]
 fn through(book: [u8; BOOK]) -> [u8; BOOK] {

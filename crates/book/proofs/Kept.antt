@@ -36,7 +36,7 @@ use Rattle.book.specs.Instructing.{newLeg, obligationOf, enteredAlone, e
 use Rattle.refusals.specs.Calls.{enterRefusals, deliverRefusalsOf, offerRefusalsIn}
 use Rattle.book.specs.Buying.{offer}
 use Rattle.refusals.proofs.Refusals.{passed, outcome-case}
-use Rattle.refusals.proofs.Offering.{offers-few}
+use Rattle.refusals.proofs.Offering.{within, offered, offers-few}
 use Rattle.book.proofs.Outcomes.{withdraw-case, cancel-case, deliver-case, offer-case}
 
 -- ---- parts of a book that change
@@ -100,25 +100,17 @@ module _ (b : Book) (v : Valid b) where
       changed-valid n (deliveringFrom q o) h (moving-sound Delivered o q (record { sound = v .ledger .sound n h; enough = t })) (moving-later Delivered o q))
 
   -- ---- Offer
-  within : (low high x : ℕ) → outside low high x ≡ false → (low ≤ x) × (x ≤ high)
-  within low high x e = let q = or-false e in (ltb-false x low (q .0), ltb-false high x (q .1))
-
   pub offer-valid : (n supplier q price : ℕ) → Valid (offer b n supplier q price .book)
-  unfolding offerRefusalsIn
   offer-valid n supplier q price =
       offer-case b (λ r. Valid (r .book)) n supplier q price (λ k z. v) (λ h e f.
-      let p1 = passed 1 _ _ e refl in
-      let p2 = passed 2 _ _ (p1 .1) refl in
-      let p3 = passed 3 _ _ (p2 .1) refl in
-      let w2 = within 1 mostQuantity q (p2 .0) in
-      let w3 = within 1 mostOfferPrice price (p3 .0) in
+      let asked = offered supplier q price e in
       with-ledger-valid _ (valid-offer (b .ledger) (v .ledger) _ (offers-few _ _ _ _ _ _ f) (record {
         there = h;
-        supplier-most = ltb-false 999 supplier (p1 .0);
-        quantity-some = w2 .0;
-        quantity-most = w2 .1;
-        price-some = w3 .0;
-        price-most = w3 .1;
+        supplier-most = asked .supplier-most;
+        quantity-some = asked .quantity-within .0;
+        quantity-most = asked .quantity-within .1;
+        price-some = asked .price-within .0;
+        price-most = asked .price-within .1;
       })) (v .room) refl (v .timely))
 
   -- ---- Enter
@@ -127,6 +119,7 @@ module _ (b : Book) (v : Valid b) where
     pub member-below : new .member < 32
     pub other-below : new .other < 32
     pub apart : new .member ≡ new .other → ⊥
+    pub side-most : new .side ≤ 1
     pub quantity-within : (1 ≤ new .quantity) × (new .quantity ≤ mostQuantity)
     pub amount-within : (1 ≤ new .amount) × (new .amount ≤ mostAmount)
     pub clears : clearing (closedOf b) (new .day) ≡ true
@@ -151,6 +144,7 @@ module _ (b : Book) (v : Valid b) where
         member-below = omega (arith, ltb-false 31 (new .member) (m .0));
         other-below = omega (arith, ltb-false 31 (new .other) (n .0));
         apart = eqb-false (new .member) (new .other) (o .0);
+        side-most = ltb-false 1 (new .side) (o .1);
         quantity-within = within 1 mostQuantity (new .quantity) (p2 .0);
         amount-within = within 1 mostAmount (new .amount) (p3 .0);
         clears = not-false _ (d .0);

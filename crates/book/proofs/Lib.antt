@@ -9,3 +9,4 @@ pub mod Paid
 pub mod Refused
 pub mod Matched
 pub mod Answers
+pub mod Changing

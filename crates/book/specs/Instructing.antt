@@ -5,16 +5,18 @@ use mathlib.Core.List.{List, [], _∷_}
 use lib.Dec.{eqb}
 use Rattle.calendar.specs.declared.Day.{Day}
 use Rattle.instructions.specs.declared.Leg.{Leg}
-use Rattle.instructions.specs.declared.LegState.the-variants.{Waiting, Withdrawn, Matched}
+use Rattle.instructions.specs.declared.LegState.the-variants.{Withdrawn, Matched}
 use Rattle.instructions.specs.declared.Fit.{Fit}
 use Rattle.instructions.specs.declared.Fit.the-variants.{With, Nobody}
 use Rattle.instructions.specs.declared.FetchedLeg.{FetchedLeg}
 use Rattle.instructions.specs.declared.FetchedLeg.the-variants.{Found, Absent}
-use Rattle.instructions.specs.Legs.{isWaiting, inState, legAt, fetchedLeg, withState, withLeg}
+use Rattle.instructions.specs.Legs.{isWaiting, legOf, inState, legAt, fetchedLeg, withState, withLeg}
 use Rattle.instructions.specs.Match.{delivering, receiving, lowestFit}
 use Rattle.ledger.specs.declared.Obligation.{Obligation}
+use Rattle.ledger.specs.declared.Fetched.{Fetched}
+use Rattle.ledger.specs.declared.Change.{Change}
 use Rattle.ledger.specs.Obligations.{newObligation, cashOf, wishing, movedByWish, delivering as deliveringFrom}
-use Rattle.ledger.specs.Ledger.{fetched, withObligation, withNew}
+use Rattle.ledger.specs.Ledger.{fetched, withObligation, refusedChange, withNew}
 use Rattle.book.specs.declared.Book.{Book}
 use Rattle.book.specs.declared.Entered.{Entered}
 use Rattle.book.specs.declared.Done.{Done}
@@ -27,15 +29,7 @@ use Rattle.book.specs.Book.{withLegs, withLedger, todayOf}
 -- ---- Enter
 -- E1, Enter: the leg of an instruction, which waits
 abbrev pub newLeg : ℕ → ℕ → ℕ → ℕ → ℕ → Day → Leg
-newLeg member other side q a j = record {
-  member = member;
-  other = other;
-  side = side;
-  quantity = q;
-  amount = a;
-  day = j;
-  state = Waiting;
-}
+newLeg member other side q a j = legOf (record { member = member; other = other; side = side; quantity = q; amount = a; day = j })
 
 -- E8, Enter: the obligation of two legs has A and the seller from the delivering leg, the buyer from the receiving leg,
 -- and Q and J, in which the two agree, from the new one
@@ -131,6 +125,13 @@ cancelDone b n member o = record {
   book = withLedger (withObligation n (wishing member o) (b .ledger)) b;
 }
 
+-- K1 to K4, Cancel: what it comes to on what was fetched
+unfoldable pub cancelChange : ℕ → Fetched → Change
+cancelChange member f =
+    fetchOutcome (cancelRefusalsIn member) f (λ o. cancelRefusalsOf o member)
+    (λ o. record { answer = 0; result = movedByWish member o; obligation = wishing member o })
+    refusedChange
+
 -- K1 to K4, Cancel
 unfoldable pub cancel : Book → ℕ → ℕ → Cancelled
 cancel b n member =
@@ -153,6 +154,13 @@ deliverDone b n q o = record {
   cash = cashOf o q;
   book = withLedger (withObligation n (deliveringFrom q o) (b .ledger)) b;
 }
+
+-- V1 and V2, Deliver: what it comes to on what was fetched, on this day
+unfoldable pub deliverChange : Day → ℕ → Fetched → Change
+deliverChange today q f =
+    fetchOutcome (deliverRefusalsIn q) f (λ o. deliverRefusalsOf today o q)
+    (λ o. record { answer = 0; result = cashOf o q; obligation = deliveringFrom q o })
+    refusedChange
 
 -- V1 and V2, Deliver
 unfoldable pub deliver : Book → ℕ → ℕ → Delivered

@@ -1,11 +1,40 @@
 // Buy-in: Offer.
 use crate::Book;
 use crate::Done;
+use calendar::Day;
 use ledger::Fetched;
+use ledger::Setup;
 use offers::Offer;
 ghost use mathlib.Core.Path.{_≡_};
+ghost use Rattle.ledger.specs.Setup.{ValidSetup};
+ghost use Rattle.ledger.specs.Ledger.{SoundFetched};
 ghost use Rattle.book.specs.Book.{Valid};
-ghost use Rattle.book.specs.Buying.{offer};
+ghost use Rattle.book.specs.Buying.{offerNumber, offer};
+
+// The answer number of an Offer for the obligation that was fetched, in a book with this setup, day and number of offers.
+fn offer_answer(
+    fetched: Fetched,
+    setup: Setup,
+    today: Day,
+    offers: usize,
+    supplier: u64,
+    quantity: u64,
+    price: u64,
+) -> u64
+    requires { ⌜ (SoundFetched fetched) × (ValidSetup setup) ⌝ }
+    ensures { λ r. ⌜ r ≡ offerNumber setup today offers supplier quantity price fetched ⌝ }
+{
+    let number = refusals::offer_answer(supplier, quantity, price);
+    if number != 0 {
+        return number;
+    }
+    let Fetched::Found(found) = fetched else {
+        return 13;
+    };
+    let closed_days = setup.closed_days;
+    let age = closed_days.age_at(found.deal.day, today);
+    refusals::offer_answer_of(setup.terms, today, age, offers, found, price)
+}
 
 impl Book {
     // Takes a supplier's offer for an obligation in its buy-in days.
@@ -14,40 +43,29 @@ impl Book {
         ensures { λ r. ⌜ r ≡ offer self obligation supplier quantity price ⌝ }
         ensures { λ r. ⌜ Valid (r .book) ⌝ }
     {
-        let number = refusals::offer_answer(supplier, quantity, price);
-        if number != 0 {
-            return Done {
-                answer: number,
-                book: self,
-            };
+        let mut ledger = self.ledger;
+        let mut held = ledger.offers;
+        let number = offer_answer(
+            ledger.fetch(obligation),
+            self.setup,
+            self.day.today,
+            held.count,
+            supplier,
+            quantity,
+            price,
+        );
+        if number == 0 {
+            held = held.insert(Offer {
+                obligation: obligation as u16,
+                supplier: supplier as u16,
+                quantity: quantity as u32,
+                price: price as u32,
+            });
         }
-        let ledger = self.ledger;
-        let Fetched::Found(found) = ledger.fetch(obligation) else {
-            return Done {
-                answer: 13,
-                book: self,
-            };
-        };
-        let setup = self.setup;
-        let closed_days = setup.closed_days;
-        let today = self.day.today;
-        let age = closed_days.age_at(found.deal.day, today);
-        let held = ledger.offers.count;
-        let late = refusals::offer_answer_of(setup.terms, today, age, held, found, price);
-        if late != 0 {
-            return Done {
-                answer: late,
-                book: self,
-            };
-        }
-        self.ledger = ledger.offer(Offer {
-            obligation: obligation,
-            supplier: supplier,
-            quantity: quantity,
-            price: price,
-        });
+        ledger.offers = held;
+        self.ledger = ledger;
         Done {
-            answer: 0,
+            answer: number,
             book: self,
         }
     }

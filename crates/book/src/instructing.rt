@@ -8,8 +8,10 @@ use amounts::MOST_QUANTITY;
 use calendar::Day;
 use instructions::FetchedLeg;
 use instructions::Fit;
+use instructions::Instruction;
 use instructions::Leg;
 use instructions::LegState;
+use ledger::Change;
 use ledger::Deal;
 use ledger::Fetched;
 use ledger::Obligation;
@@ -18,10 +20,11 @@ use refusals::LAST_MEMBER;
 ghost use mathlib.Core.Path.{_≡_};
 ghost use Prim.Native.Nat.{_<_};
 ghost use Rattle.instructions.specs.Legs.{mostLegs};
-ghost use Rattle.ledger.specs.Ledger.{mostObligations};
+ghost use Rattle.ledger.specs.Ledger.{mostObligations, SoundFetched};
 ghost use Rattle.book.specs.Book.{Valid};
 ghost use Rattle.book.specs.Instructing.{obligationOf, enteredWith, enter, withdraw};
-ghost use Rattle.book.specs.Instructing.{cancel, deliver};
+ghost use Rattle.refusals.specs.Refusals.{answer};
+ghost use Rattle.book.specs.Instructing.{withdrawRefusals, cancelChange, cancel, deliverChange, deliver};
 
 // The obligation of a new leg and the one that it matches.
 fn obligation_of(new: Leg, old: Leg) -> Obligation
@@ -31,12 +34,76 @@ fn obligation_of(new: Leg, old: Leg) -> Obligation
     let buyer = new.receiving(old);
     let day = new.day;
     Obligation::new(Deal {
-        seller: seller.member,
-        buyer: buyer.member,
-        quantity: new.quantity,
         amount: seller.amount,
         day: day,
+        quantity: new.quantity,
+        seller: seller.member,
+        buyer: buyer.member,
     })
+}
+
+// The answer number of a Withdraw of the leg that was fetched.
+fn withdraw_answer(fetched: FetchedLeg, member: u64) -> u64
+    ensures { λ r. ⌜ r ≡ answer (withdrawRefusals fetched member) ⌝ }
+{
+    if LAST_MEMBER < member {
+        return 1;
+    }
+    let FetchedLeg::Found(found) = fetched else {
+        return 13;
+    };
+    let state = found.state;
+    if !instructions::is_waiting(state) {
+        return 13;
+    }
+    if found.member as u64 != member {
+        return 14;
+    }
+    0
+}
+
+// What a Cancel comes to on the obligation that was fetched. Its result is the quantity that is cancelled.
+fn cancelling(fetched: Fetched, member: u64) -> Change
+    requires { ⌜ SoundFetched fetched ⌝ }
+    ensures { λ r. ⌜ r ≡ cancelChange member fetched ⌝ }
+{
+    if LAST_MEMBER < member {
+        return Change::refused(1);
+    }
+    let Fetched::Found(found) = fetched else {
+        return Change::refused(13);
+    };
+    let number = refusals::cancel_answer(found, member);
+    if number != 0 {
+        return Change::refused(number);
+    }
+    Change {
+        answer: 0,
+        result: found.moved_by_wish(member),
+        obligation: found.wish(member),
+    }
+}
+
+// What a Deliver comes to on the obligation that was fetched. Its result is the cash.
+fn delivering(fetched: Fetched, today: Day, quantity: u64) -> Change
+    requires { ⌜ SoundFetched fetched ⌝ }
+    ensures { λ r. ⌜ r ≡ deliverChange today quantity fetched ⌝ }
+{
+    if refusals::is_outside(1, MOST_QUANTITY, quantity) {
+        return Change::refused(2);
+    }
+    let Fetched::Found(found) = fetched else {
+        return Change::refused(13);
+    };
+    let number = refusals::deliver_answer(today, found, quantity);
+    if number != 0 {
+        return Change::refused(number);
+    }
+    Change {
+        answer: 0,
+        result: found.cash_for(quantity),
+        obligation: found.move_to(Part::Delivered, quantity),
+    }
 }
 
 impl Book {
@@ -49,10 +116,12 @@ impl Book {
         let ledger = self.ledger;
         let number = legs.count as u64;
         let obligation = ledger.count as u64;
+        let state = LegState::Matched(obligation as u8);
+        let rows = legs.rows;
         let i = k as usize;
-        let old = legs.rows[i];
-        let matched = legs.set_state(k, LegState::Matched(obligation));
-        let all = matched.add(new.in_state(LegState::Matched(obligation)));
+        let old = rows[i];
+        let matched = legs.set_state(k, state);
+        let all = matched.add(new.in_state(state));
         let made = ledger.add(obligation_of(new, old));
         self.legs = all;
         self.ledger = made;
@@ -78,18 +147,17 @@ impl Book {
         ensures { λ r. ⌜ r ≡ enter self member other side quantity amount day ⌝ }
         ensures { λ r. ⌜ Valid (r .book) ⌝ }
     {
-        let new = Leg {
+        let asked = Instruction {
             member: member,
             other: other,
             side: side,
             quantity: quantity,
             amount: amount,
             day: day,
-            state: LegState::Waiting,
         };
         let legs = self.legs;
         let closed_days = self.setup.closed_days;
-        let number = refusals::enter_answer(closed_days, self.day.today, legs.count, new);
+        let number = refusals::enter_answer(closed_days, self.day.today, legs.count, asked);
         if number != 0 {
             return Entered {
                 answer: number,
@@ -98,6 +166,7 @@ impl Book {
                 book: self,
             };
         }
+        let new = asked.leg();
         let Fit::With(k) = legs.lowest_fit(new) else {
             self.legs = legs.add(new);
             return Entered {
@@ -116,35 +185,14 @@ impl Book {
         ensures { λ r. ⌜ r ≡ withdraw self leg member ⌝ }
         ensures { λ r. ⌜ Valid (r .book) ⌝ }
     {
-        if LAST_MEMBER < member {
-            return Done {
-                answer: 1,
-                book: self,
-            };
+        let mut legs = self.legs;
+        let number = withdraw_answer(legs.fetch(leg), member);
+        if number == 0 {
+            legs = legs.set_state(leg, LegState::Withdrawn);
         }
-        let legs = self.legs;
-        let FetchedLeg::Found(found) = legs.fetch(leg) else {
-            return Done {
-                answer: 13,
-                book: self,
-            };
-        };
-        let state = found.state;
-        if !instructions::is_waiting(state) {
-            return Done {
-                answer: 13,
-                book: self,
-            };
-        }
-        if found.member != member {
-            return Done {
-                answer: 14,
-                book: self,
-            };
-        }
-        self.legs = legs.set_state(leg, LegState::Withdrawn);
+        self.legs = legs;
         Done {
-            answer: 0,
+            answer: number,
             book: self,
         }
     }
@@ -155,33 +203,13 @@ impl Book {
         ensures { λ r. ⌜ r ≡ cancel self obligation member ⌝ }
         ensures { λ r. ⌜ Valid (r .book) ⌝ }
     {
-        if LAST_MEMBER < member {
-            return Cancelled {
-                answer: 1,
-                moved: 0,
-                book: self,
-            };
-        }
         let ledger = self.ledger;
-        let Fetched::Found(found) = ledger.fetch(obligation) else {
-            return Cancelled {
-                answer: 13,
-                moved: 0,
-                book: self,
-            };
-        };
-        let number = refusals::cancel_answer(found, member);
-        if number != 0 {
-            return Cancelled {
-                answer: number,
-                moved: 0,
-                book: self,
-            };
-        }
-        self.ledger = ledger.replace(obligation, found.wish(member));
+        let change = cancelling(ledger.fetch(obligation), member);
+        let after = ledger.change(obligation, change);
+        self.ledger = after;
         Cancelled {
-            answer: 0,
-            moved: found.moved_by_wish(member),
+            answer: change.answer,
+            moved: change.result,
             book: self,
         }
     }
@@ -192,34 +220,13 @@ impl Book {
         ensures { λ r. ⌜ r ≡ deliver self obligation quantity ⌝ }
         ensures { λ r. ⌜ Valid (r .book) ⌝ }
     {
-        if refusals::is_outside(1, MOST_QUANTITY, quantity) {
-            return Delivered {
-                answer: 2,
-                cash: 0,
-                book: self,
-            };
-        }
         let ledger = self.ledger;
-        let Fetched::Found(found) = ledger.fetch(obligation) else {
-            return Delivered {
-                answer: 13,
-                cash: 0,
-                book: self,
-            };
-        };
-        let number = refusals::deliver_answer(self.day.today, found, quantity);
-        if number != 0 {
-            return Delivered {
-                answer: number,
-                cash: 0,
-                book: self,
-            };
-        }
-        let next = found.move_to(Part::Delivered, quantity);
-        self.ledger = ledger.replace(obligation, next);
+        let change = delivering(ledger.fetch(obligation), self.day.today, quantity);
+        let after = ledger.change(obligation, change);
+        self.ledger = after;
         Delivered {
-            answer: 0,
-            cash: found.cash_for(quantity),
+            answer: change.answer,
+            cash: change.result,
             book: self,
         }
     }

@@ -20,12 +20,13 @@ pub struct BookDay {
     pub close_since: bool,
 }
 
-// The settlement-discipline book of one bond.
+// The settlement-discipline book of one bond. The large arrays stand first and the small fields last, so that there is no
+// gap in front of an array; the compiler then copies only the arrays that a call changes.
 pub struct Book {
-    pub setup: Setup,
-    pub day: BookDay,
     pub legs: Legs,
     pub ledger: Ledger,
+    pub setup: Setup,
+    pub day: BookDay,
 }
 
 // The answer of Open.

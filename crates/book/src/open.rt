@@ -37,6 +37,8 @@ impl Book {
         ensures { λ r. ⌜ r ≡ freshBook first «closed_days» terms ⌝ }
     {
         Book {
+            legs: Legs::none(),
+            ledger: Ledger::new(),
             setup: Setup {
                 closed_days: closed_days,
                 terms: terms_of(terms),
@@ -45,8 +47,6 @@ impl Book {
                 today: first,
                 close_since: false,
             },
-            legs: Legs::none(),
-            ledger: Ledger::new(),
         }
     }
 

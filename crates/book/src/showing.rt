@@ -18,7 +18,7 @@ ghost use Rattle.book.specs.Showing.{status, account, isLate, LooksAt, L
 fn is_late(today: Day, member: u64, o: Obligation) -> bool
     ensures { λ r. ⌜ r ≡ isLate today member o ⌝ }
 {
-    o.deal.seller == member && (o.deal.day.0 < today.0 && 0 < o.parts.outstanding)
+    o.deal.seller as u64 == member && (o.deal.day.0 < today.0 && 0 < o.parts.outstanding)
 }
 
 impl Book {
@@ -40,7 +40,7 @@ impl Book {
         let parts = found.parts;
         Shown {
             answer: 0,
-            quantity: found.deal.quantity,
+            quantity: found.deal.quantity as u64,
             parts: parts,
             book: self,
         }

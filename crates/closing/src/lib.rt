@@ -2,12 +2,10 @@
 use calendar::ClearingDays;
 use calendar::Day;
 use ledger::Ledger;
-use ledger::MOST_OBLIGATIONS;
 use ledger::Obligation;
 use ledger::Part;
 use ledger::Setup;
 use ledger::Terms;
-use netting::MEMBER_COUNT;
 use offers::BuyIn;
 use offers::Given;
 use offers::Offers;
@@ -16,14 +14,13 @@ ghost use Prim.Native.Nat.{_+_, _*_, _≤_};
 ghost use lib.ListN.{length};
 ghost use lib.Seq.{sets};
 ghost use Rattle.amounts.specs.Amounts.{mostClosePrice, mostOfferPrice, mostRate};
-ghost use Rattle.netting.specs.Accounts.{Bounded};
+ghost use Rattle.netting.specs.Accounts.{memberCount, Bounded};
 ghost use Rattle.ledger.specs.Obligations.{Sound, Takes};
-ghost use Rattle.ledger.specs.Ledger.{ValidLedger};
 ghost use Rattle.offers.specs.Held.{listed};
 ghost use Rattle.closing.specs.Lines.{wordsOf, one, Wrote, Room};
 ghost use Rattle.closing.specs.Stages.{plainLine, priced, penalised, noticeAt, boughtFrom, boughtAll, buyInAt, compensatedAt};
-ghost use Rattle.closing.specs.Close.{stages, closedOne, rowsUpTo, fined, accountsUpTo, closedLedger, closeLines};
-ghost use Rattle.closing.specs.Asked.{taken, Priced, Buys, Closes, Near, Closable, ClosedAs};
+ghost use Rattle.closing.specs.Close.{stages, closedOne, fined, closedLedger, closeLines};
+ghost use Rattle.closing.specs.Asked.{taken, Priced, Buys, Closes, Closable, ClosedAs};
 
 // What a Close works with: the setup and the day of the book, and the price and the rate that it was given.
 pub struct DayEnd {
@@ -55,12 +52,6 @@ pub struct Line {
 // An obligation in the course of its Close, and how many lines there are so far.
 pub struct Closing {
     pub obligation: Obligation,
-    pub count: usize,
-}
-
-// All obligations after a Close, and how many lines it reported.
-pub struct ClosedRows {
-    pub obligations: [Obligation; MOST_OBLIGATIONS],
     pub count: usize,
 }
 
@@ -112,6 +103,7 @@ fn report(next: Obligation, count: usize, line: Line, lines: &mut [u64]) -> Clos
 
 // Stores the price in the obligation at age = grace. The cap needs it later.
 fn keep_price(o: Obligation, terms: Terms, age: ClearingDays, price: u64) -> Obligation
+    requires { ⌜ price ≤ mostClosePrice ⌝ }
     ensures { λ r. ⌜ r ≡ priced terms (age .0) price o ⌝ }
 {
     if age.0 == terms.grace.0 {
@@ -127,7 +119,7 @@ fn penalise(s: Closing, number: u64, price: u64, rate: u64, lines: &mut [u64]) -
     ensures { λ r. ⌜ Wrote (s .count) (now (lines .entry)) r (now (lines .exit)) (penalised number price rate (s .obligation)) ⌝ }
 {
     let o = s.obligation;
-    let left = o.parts.outstanding;
+    let left = o.parts.outstanding as u64;
     let cents = amounts::penalty_of(left, price, rate);
     let line = plain_line(PENALTY, number, left, cents);
     report(o, s.count, line, lines)
@@ -146,7 +138,7 @@ fn give_notice(
 {
     if age.0 == terms.notice.0 {
         let o = s.obligation;
-        let line = plain_line(NOTICE, number, o.parts.outstanding, 0);
+        let line = plain_line(NOTICE, number, o.parts.outstanding as u64, 0);
         return report(o, s.count, line, lines);
     }
     s
@@ -159,16 +151,18 @@ fn buy_from(s: Closing, number: u64, from: Given, lines: &mut [u64]) -> Closing
     ensures { λ r. ⌜ Wrote (s .count) (now (lines .entry)) r (now (lines .exit)) (boughtFrom number from (s .obligation)) ⌝ }
 {
     let o = s.obligation;
-    let cash = o.cash_for(from.quantity);
+    let quantity = from.quantity as u64;
+    let cash = o.cash_for(quantity);
+    let price = from.offer.price as u64;
     let line = Line {
         kind: BOUGHT,
         obligation: number,
-        quantity: from.quantity,
-        cents: amounts::charge_for(from.quantity, from.offer.price, cash),
-        supplier: from.offer.supplier,
-        price: from.offer.price,
+        quantity: quantity,
+        cents: amounts::charge_for(quantity, price, cash),
+        supplier: from.offer.supplier as u64,
+        price: price,
     };
-    let next = o.move_to(Part::BoughtIn, from.quantity);
+    let next = o.move_to(Part::BoughtIn, quantity);
     report(next, s.count, line, lines)
 }
 
@@ -204,7 +198,7 @@ fn buy_in(
     ensures { λ r. ⌜ Wrote (s .count) (now (lines .entry)) r (now (lines .exit)) (buyInAt terms (age .0) (listed offers) number (s .obligation)) ⌝ }
 {
     if terms.buys_in(age) {
-        let bought = offers.buy_in(number, s.obligation.parts.outstanding);
+        let bought = offers.buy_in(number, s.obligation.parts.outstanding as u64);
         return buy_all(s, number, bought, lines);
     }
     s
@@ -225,7 +219,7 @@ fn compensate(
 {
     if age.0 == terms.last.0 {
         let o = s.obligation;
-        let left = o.parts.outstanding;
+        let left = o.parts.outstanding as u64;
         if left == 0 {
             return s;
         }
@@ -288,84 +282,48 @@ fn close_one(
     }
 }
 
-// Closes all obligations, in rising number.
-fn close_all(l: Ledger, day: DayEnd, lines: &mut [u64]) -> ClosedRows
-    requires { ⌜ Closable day l (now lines) ⌝ }
-    ensures { λ r. ⌜ ClosedAs (rowsUpTo day (listed (l .offers)) (l .obligations) (l .count)) (closeLines day l) (r .obligations) (r .count) (now (lines .entry)) (now (lines .exit)) ⌝ }
-{
-    let held = l.obligations;
-    let offers = l.offers;
-    let n = l.count;
-    let mut next = held;
-    let mut count = 0;
-    let mut i = 0;
-    while i < n {
-        let o = held[i];
-        let closed = close_one(o, i as u64, day, offers, count, lines);
-        let row = closed.obligation;
-        next[i] = row;
-        count = closed.count;
-        i += 1;
-    }
-    ClosedRows {
-        obligations: next,
-        count: count,
-    }
-}
-
 // Moves the penalty of an obligation that is due from the account of the seller to that of the buyer.
-fn fine(
-    accounts: [i64; MEMBER_COUNT],
-    o: Obligation,
-    today: Day,
-    price: u64,
-    rate: u64,
-) -> [i64; MEMBER_COUNT]
-    requires { ⌜ (Sound o) × (price ≤ mostClosePrice) × (rate ≤ mostRate) × (Bounded accounts) ⌝ }
-    ensures { λ r. ⌜ r ≡ fined today price rate o accounts ⌝ }
+fn fine(accounts: &mut [i64], o: Obligation, today: Day, price: u64, rate: u64)
+    requires { ⌜ (Sound o) × (price ≤ mostClosePrice) × (rate ≤ mostRate) ⌝ }
+    requires { ⌜ (Bounded (now accounts)) × (length (now accounts) ≡ memberCount) ⌝ }
+    ensures { λ _. ⌜ now (accounts .exit) ≡ fined today price rate o (now (accounts .entry)) ⌝ }
 {
     if o.is_due(today) {
-        let cents = amounts::penalty_of(o.parts.outstanding, price, rate);
+        let cents = amounts::penalty_of(o.parts.outstanding as u64, price, rate);
         let seller = o.deal.seller as usize;
         let buyer = o.deal.buyer as usize;
-        return netting::transfer(accounts, seller, buyer, cents);
+        netting::transfer(accounts, seller, buyer, cents);
     }
-    accounts
 }
 
-// Moves the penalties of all obligations.
-fn fine_all(l: Ledger, today: Day, price: u64, rate: u64) -> [i64; MEMBER_COUNT]
-    requires { ⌜ (ValidLedger l) × (Near (l .accounts)) × (price ≤ mostClosePrice) × (rate ≤ mostRate) ⌝ }
-    ensures { λ r. ⌜ r ≡ accountsUpTo today price rate (l .obligations) (l .accounts) (l .count) ⌝ }
-{
-    let held = l.obligations;
-    let count = l.count;
-    let mut accounts = l.accounts;
-    let mut i = 0;
-    while i < count {
-        let o = held[i];
-        let after = fine(accounts, o, today, price, rate);
-        accounts = after;
-        i += 1;
-    }
-    accounts
-}
-
-// Closes a ledger: it reports the lines of all obligations and moves their penalties. Then it removes the offers.
+// Closes a ledger: it closes all obligations, in rising number, and moves the penalty of each. Then it removes the offers.
+// A row is read just before it is stored, so that one array of rows is enough.
 pub fn close(l: Ledger, day: DayEnd, lines: &mut [u64]) -> ClosedLedger
     requires { ⌜ Closable day l (now lines) ⌝ }
     ensures { λ r. ⌜ ClosedAs (closedLedger day l) (closeLines day l) (r .ledger) (r .count) (now (lines .entry)) (now (lines .exit)) ⌝ }
 {
-    let accounts = fine_all(l, day.today, day.price, day.rate);
-    let rows = close_all(l, day, lines);
-    let obligations = rows.obligations;
-    let offers = Offers::none();
+    let offers = l.offers;
+    let n = l.count;
+    let mut rows = l.obligations;
+    let mut accounts = l.accounts;
+    let mut count = 0;
+    let mut i = 0;
+    while i < n {
+        let o = rows[i];
+        fine(&mut accounts, o, day.today, day.price, day.rate);
+        let closed = close_one(o, i as u64, day, offers, count, lines);
+        let row = closed.obligation;
+        rows[i] = row;
+        count = closed.count;
+        i += 1;
+    }
+    let none = Offers::none();
     let mut next = l;
-    next.obligations = obligations;
-    next.offers = offers;
+    next.obligations = rows;
+    next.offers = none;
     next.accounts = accounts;
     ClosedLedger {
         ledger: next,
-        count: rows.count,
+        count: count,
     }
 }

@@ -135,7 +135,7 @@ fn clearing_days() -> u64
 }
 
 // An offer for obligation 0.
-fn offered(supplier: u64, quantity: u64, price: u64) -> Offer
+fn offered(supplier: u16, quantity: u32, price: u32) -> Offer
     ensures { λ r. ⌜ r ≡ offerOf supplier quantity price ⌝ }
 {
     Offer {
@@ -159,10 +159,10 @@ fn auction() -> u64
     let first = given[0];
     let second = given[1];
     compared(10, bought.count as u64, 2)
-        + compared(10, first.offer.supplier, 2)
-        + compared(10, first.quantity, 5)
-        + compared(10, second.offer.supplier, 1)
-        + compared(10, second.quantity, 5)
+        + compared(10, first.offer.supplier as u64, 2)
+        + compared(10, first.quantity as u64, 5)
+        + compared(10, second.offer.supplier as u64, 1)
+        + compared(10, second.quantity as u64, 5)
 }
 
 // Example 10, the charges of the two quantities bought.

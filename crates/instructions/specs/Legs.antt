@@ -8,9 +8,10 @@ use lib.ListN.{length, getD, set, take, replicate}
 use Rattle.basics.specs.Choice.{pick}
 use Rattle.basics.specs.Lists.{total, Every}
 use Rattle.calendar.specs.Closed.{day}
-use Rattle.amounts.specs.Amounts.{mostAmount}
+use Rattle.amounts.specs.Amounts.{mostQuantity, mostAmount}
 use Rattle.instructions.specs.declared.LegState.{LegState}
 use Rattle.instructions.specs.declared.LegState.the-variants.{Waiting, Withdrawn, Matched}
+use Rattle.instructions.specs.declared.Instruction.{Instruction}
 use Rattle.instructions.specs.declared.Leg.{Leg}
 use Rattle.instructions.specs.declared.Legs.{Legs}
 use Rattle.instructions.specs.declared.FetchedLeg.{FetchedLeg}
@@ -21,6 +22,25 @@ abbrev pub isWaiting : LegState → Bool
 isWaiting Waiting = true
 isWaiting Withdrawn = false
 isWaiting (Matched n) = false
+
+-- E1, Enter: the leg of an instruction, which waits
+abbrev pub legOf : Instruction → Leg
+legOf i = record {
+  member = i .member;
+  other = i .other;
+  side = i .side;
+  quantity = i .quantity;
+  amount = i .amount;
+  day = i .day;
+  state = Waiting;
+}
+
+-- what is required so that a leg can hold the numbers of an instruction: they are at most what fits its fields
+pub record Fitting (i : Instruction) : Type 0 where
+  pub member-fits : i .member ≤ 255
+  pub other-fits : i .other ≤ 255
+  pub side-fits : i .side ≤ 255
+  pub quantity-fits : i .quantity ≤ mostQuantity
 
 -- a place that no leg has taken holds a withdrawn leg of zeros
 abbrev pub noLeg : Leg

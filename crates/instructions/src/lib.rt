@@ -2,7 +2,7 @@
 use calendar::Day;
 ghost use mathlib.Core.Path.{_≡_};
 ghost use Prim.Native.Nat.{_≤_, _<_};
-ghost use Rattle.instructions.specs.Legs.{mostLegs, isWaiting, noLegs, inState, fetchedLeg, withState, withLeg};
+ghost use Rattle.instructions.specs.Legs.{mostLegs, isWaiting, legOf, Fitting, noLegs, inState, fetchedLeg, withState, withLeg};
 ghost use Rattle.instructions.specs.Match.{delivering, receiving, membersCross, sameBusiness, fits, lowestFit};
 
 // The most legs of a book; `mostLegs` in specs/.
@@ -13,17 +13,28 @@ pub const MOST_LEGS: usize = 128;
 pub enum LegState {
     Withdrawn,
     Waiting,
-    Matched(u64),
+    Matched(u8),
 }
 
-// One member's instruction. Side 0 delivers, side 1 receives.
-pub struct Leg {
+// What an Enter asks. Its numbers may be any.
+pub struct Instruction {
     pub member: u64,
     pub other: u64,
     pub side: u64,
     pub quantity: u64,
     pub amount: u64,
     pub day: Day,
+}
+
+// One member's instruction, as the book keeps it. Side 0 delivers, side 1 receives. Its fields are as narrow as their limits allow, because
+// the book holds 128 of these and is copied at every call.
+pub struct Leg {
+    pub amount: u64,
+    pub day: Day,
+    pub quantity: u32,
+    pub member: u8,
+    pub other: u8,
+    pub side: u8,
     pub state: LegState,
 }
 
@@ -47,12 +58,12 @@ pub enum Fit {
 
 // A place that no leg has taken holds this leg. It is withdrawn, so that it matches nothing.
 const NO_LEG: Leg = Leg {
+    amount: 0,
+    day: Day(0),
+    quantity: 0,
     member: 0,
     other: 0,
     side: 0,
-    quantity: 0,
-    amount: 0,
-    day: Day(0),
     state: LegState::Withdrawn,
 };
 
@@ -64,6 +75,25 @@ pub fn is_waiting(state: LegState) -> bool
         LegState::Withdrawn => false,
         LegState::Waiting => true,
         LegState::Matched(_) => false,
+    }
+}
+
+impl Instruction {
+    // The leg of an instruction, which waits.
+    pub fn leg(self) -> Leg
+        requires { ⌜ Fitting self ⌝ }
+        ensures { λ r. ⌜ r ≡ legOf self ⌝ }
+    {
+        let day = self.day;
+        Leg {
+            amount: self.amount,
+            day: day,
+            quantity: self.quantity as u32,
+            member: self.member as u8,
+            other: self.other as u8,
+            side: self.side as u8,
+            state: LegState::Waiting,
+        }
     }
 }
 
@@ -114,12 +144,12 @@ impl Leg {
     {
         let day = self.day;
         Leg {
+            amount: self.amount,
+            day: day,
+            quantity: self.quantity,
             member: self.member,
             other: self.other,
             side: self.side,
-            quantity: self.quantity,
-            amount: self.amount,
-            day: day,
             state: state,
         }
     }
@@ -142,9 +172,10 @@ impl Legs {
         ensures { λ r. ⌜ r ≡ fetchedLeg self number ⌝ }
     {
         let count = self.count;
+        let rows = self.rows;
         if number < count as u64 {
             let i = number as usize;
-            return FetchedLeg::Found(self.rows[i]);
+            return FetchedLeg::Found(rows[i]);
         }
         FetchedLeg::Absent
     }
@@ -155,9 +186,10 @@ impl Legs {
         ensures { λ r. ⌜ r ≡ withState number state self ⌝ }
     {
         let i = number as usize;
-        let leg = self.rows[i];
-        let next = leg.in_state(state);
-        self.rows[i] = next;
+        let mut rows = self.rows;
+        let leg = rows[i];
+        rows[i] = leg.in_state(state);
+        self.rows = rows;
         self
     }
 
@@ -167,7 +199,9 @@ impl Legs {
         ensures { λ r. ⌜ r ≡ withLeg leg self ⌝ }
     {
         let i = self.count;
-        self.rows[i] = leg;
+        let mut rows = self.rows;
+        rows[i] = leg;
+        self.rows = rows;
         self.count = i + 1;
         self
     }
@@ -178,9 +212,10 @@ impl Legs {
         ensures { λ r. ⌜ r ≡ lowestFit self new ⌝ }
     {
         let count = self.count;
+        let rows = self.rows;
         let mut i = 0;
         while i < count {
-            let leg = self.rows[i];
+            let leg = rows[i];
             if leg.fits_new(new) {
                 return Fit::With(i as u64);
             }

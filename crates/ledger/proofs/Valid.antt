@@ -22,7 +22,7 @@ use Rattle.ledger.specs.declared.Ledger.{Ledger}
 use Rattle.ledger.specs.declared.Fetched.{Fetched}
 use Rattle.ledger.specs.declared.Fetched.the-variants.{Found, Absent}
 use Rattle.ledger.specs.Obligations.{noObligation, Sound}
-use Rattle.ledger.specs.Ledger.{newLedger, obligationAt, fetched, withObligation, withNew, withOfferFor, SoundOffer, ValidOffers, ValidLedger}
+use Rattle.ledger.specs.Ledger.{newLedger, obligationAt, fetched, SoundFetched, withObligation, withNew, withOfferFor, SoundOffer, ValidOffers, ValidLedger}
 
 -- no offers
 pub no-offers-valid : (n : ℕ) → ValidOffers n noOffers
@@ -66,6 +66,10 @@ module _ (l : Ledger) (v : ValidLedger l) where
   -- an obligation that was found is sound
   pub there-sound : (n : ℕ) (o : Obligation) → There l n o → Sound o
   there-sound n o t = rw (t .same) (v .sound n (ltb-true n (l .count) (t .below)))
+
+  -- what is fetched of it is sound
+  pub fetched-sound : (n : ℕ) → SoundFetched (fetched l n)
+  fetched-sound n o e = there-sound n o (found-there l n o e)
 
   -- an obligation of it, changed and sound
   pub valid-changed : (n : ℕ) (o : Obligation) → n < l .count → Sound o → ValidLedger (withObligation n o l)

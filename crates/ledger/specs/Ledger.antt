@@ -3,7 +3,7 @@ use Prim.Native.Nat.{ℕ, _+_, _≤_, _<_}
 use mathlib.Core.Path.{_≡_}
 use mathlib.Core.Bool.{false}
 use mathlib.Core.List.{List}
-use lib.Dec.{ltb}
+use lib.Dec.{eqb, ltb}
 use lib.IntN.{ℤ, pos}
 use lib.ListN.{length, getD, set, replicate}
 use Rattle.basics.specs.Choice.{pick}
@@ -17,6 +17,7 @@ use Rattle.offers.specs.Held.{mostOffers, noOffers, listed, withOffer}
 use Rattle.ledger.specs.declared.Obligation.{Obligation}
 use Rattle.ledger.specs.declared.Fetched.{Fetched}
 use Rattle.ledger.specs.declared.Fetched.the-variants.{Found, Absent}
+use Rattle.ledger.specs.declared.Change.{Change}
 use Rattle.ledger.specs.declared.Ledger.{Ledger}
 use Rattle.ledger.specs.Obligations.{noObligation, Sound}
 
@@ -43,6 +44,19 @@ fetched l n = pick (ltb n (l .count)) (Found (obligationAt l n)) Absent
 -- the ledger with another obligation under a number
 abbrev pub withObligation : ℕ → Obligation → Ledger → Ledger
 withObligation n o l = record { obligations = set (l .obligations) n o; count = l .count; offers = l .offers; accounts = l .accounts }
+
+-- what was fetched is sound, if it was found
+abbrev pub SoundFetched : Fetched → Type 0
+SoundFetched f = (o : Obligation) → f ≡ Found o → Sound o
+
+-- A5, Refusals: what a call comes to that is refused by a number
+abbrev pub refusedChange : ℕ → Change
+refusedChange k = record { answer = k; result = 0; obligation = noObligation }
+
+-- A5, Refusals: the ledger after a call on obligation n. If the call is done, the obligation is what the call made of it;
+-- a refused call changes nothing.
+abbrev pub changed : ℕ → Change → Ledger → Ledger
+changed n c l = pick (eqb (c .answer) 0) (withObligation n (c .obligation) l) l
 
 -- E8, Enter: a new obligation gets the next number, from 0 on
 abbrev pub withNew : Obligation → Ledger → Ledger

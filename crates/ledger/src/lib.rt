@@ -8,13 +8,13 @@ use offers::Offer;
 use offers::Offers;
 ghost use mathlib.Core.Path.{_≡_};
 ghost use Prim.Native.Nat.{_+_, _≤_, _<_};
-ghost use Rattle.amounts.specs.Amounts.{mostQuantity};
+ghost use Rattle.amounts.specs.Amounts.{mostQuantity, mostClosePrice};
 ghost use Rattle.offers.specs.Held.{mostOffers};
 ghost use Rattle.ledger.specs.Parts.{moved, allParts};
 ghost use Rattle.ledger.specs.Obligations.{newObligation, settled, cashOf, moving, Sound, Takes};
 ghost use Rattle.ledger.specs.Obligations.{inBuyIn, isDue, withGracePrice};
 ghost use Rattle.ledger.specs.Obligations.{isParty, hasWished, withWish, bothWish, wishing, movedByWish};
-ghost use Rattle.ledger.specs.Ledger.{mostObligations, newLedger, fetched, withObligation, withNew, withOfferFor, clearedLedger};
+ghost use Rattle.ledger.specs.Ledger.{mostObligations, newLedger, fetched, refusedChange, changed, withNew, withOfferFor, clearedLedger};
 
 // The most obligations of a book; `mostObligations` in specs/.
 pub const MOST_OBLIGATIONS: usize = 64;
@@ -49,26 +49,26 @@ pub enum Part {
 
 // What has become of an obligation's quantity so far. The five add up to it.
 pub struct Parts {
-    pub delivered: u64,
-    pub bought_in: u64,
-    pub compensated: u64,
-    pub cancelled: u64,
-    pub outstanding: u64,
+    pub delivered: u32,
+    pub bought_in: u32,
+    pub compensated: u32,
+    pub cancelled: u32,
+    pub outstanding: u32,
 }
 
 // What was agreed: a seller owes a buyer a quantity against an amount on a settlement day, which docs/RULES.md calls J.
 pub struct Deal {
-    pub seller: u64,
-    pub buyer: u64,
-    pub quantity: u64,
     pub amount: u64,
     pub day: Day,
+    pub quantity: u32,
+    pub seller: u8,
+    pub buyer: u8,
 }
 
 // How far an obligation has come in its stages.
 pub struct Stage {
     // The price of the Close at age = grace; 0 before it.
-    pub grace_price: u64,
+    pub grace_price: u32,
 }
 
 // Which parties wish to cancel.
@@ -77,7 +77,8 @@ pub struct Wishes {
     pub buyer: bool,
 }
 
-// A deal with what has become of it.
+// A deal with what has become of it. Its fields are as narrow as their limits allow, because the book holds 64 of these
+// and is copied at every call.
 pub struct Obligation {
     pub deal: Deal,
     pub parts: Parts,
@@ -89,6 +90,14 @@ pub struct Obligation {
 pub enum Fetched {
     Found(Obligation),
     Absent,
+}
+
+// What a call comes to on the obligation that it names: its answer number, its result, and the obligation as it is then.
+// A refused call has the result 0, and its obligation is not used.
+pub struct Change {
+    pub answer: u64,
+    pub result: u64,
+    pub obligation: Obligation,
 }
 
 // The obligations, numbered from 0 (the first count of them), the offers of today and the accounts.
@@ -120,11 +129,11 @@ const NO_WISHES: Wishes = Wishes {
 // A place that no obligation has taken holds this one.
 const NO_OBLIGATION: Obligation = Obligation {
     deal: Deal {
-        seller: 0,
-        buyer: 0,
-        quantity: 0,
         amount: 0,
         day: Day(0),
+        quantity: 0,
+        seller: 0,
+        buyer: 0,
     },
     parts: NO_PARTS,
     stage: NEW_STAGE,
@@ -146,13 +155,14 @@ impl Parts {
         requires { ⌜ (quantity ≤ self .outstanding) × (allParts self ≤ mostQuantity) ⌝ }
         ensures { λ r. ⌜ r ≡ moved part quantity self ⌝ }
     {
+        let units = quantity as u32;
         let mut next = self;
-        next.outstanding -= quantity;
+        next.outstanding -= units;
         match part {
-            Part::Delivered => next.delivered += quantity,
-            Part::BoughtIn => next.bought_in += quantity,
-            Part::Compensated => next.compensated += quantity,
-            Part::Cancelled => next.cancelled += quantity,
+            Part::Delivered => next.delivered += units,
+            Part::BoughtIn => next.bought_in += units,
+            Part::Compensated => next.compensated += units,
+            Part::Cancelled => next.cancelled += units,
         }
         next
     }
@@ -178,7 +188,7 @@ impl Obligation {
         requires { ⌜ Sound self ⌝ }
         ensures { λ r. ⌜ r ≡ settled self ⌝ }
     {
-        self.parts.delivered + self.parts.bought_in
+        self.parts.delivered as u64 + self.parts.bought_in as u64
     }
 
     // The cash for a quantity that is settled next.
@@ -189,7 +199,7 @@ impl Obligation {
         let so_far = self.settled_so_far();
         amounts::cash_for(
             self.deal.amount,
-            self.deal.quantity,
+            self.deal.quantity as u64,
             so_far,
             so_far + quantity,
         )
@@ -216,10 +226,12 @@ impl Obligation {
 
     // Keeps the price of the Close at age = grace.
     pub fn keep_price(self, price: u64) -> Obligation
+        requires { ⌜ price ≤ mostClosePrice ⌝ }
         ensures { λ r. ⌜ r ≡ withGracePrice price self ⌝ }
     {
         let mut next = self;
-        next.stage.grace_price = price;
+        let kept = price as u32;
+        next.stage.grace_price = kept;
         next
     }
 
@@ -227,14 +239,14 @@ impl Obligation {
     pub fn is_party(self, member: u64) -> bool
         ensures { λ r. ⌜ r ≡ isParty self member ⌝ }
     {
-        self.deal.seller == member || self.deal.buyer == member
+        self.deal.seller as u64 == member || self.deal.buyer as u64 == member
     }
 
     // Whether the wish of a party to cancel is recorded.
     pub fn has_wished(self, member: u64) -> bool
         ensures { λ r. ⌜ r ≡ hasWished self member ⌝ }
     {
-        if self.deal.seller == member {
+        if self.deal.seller as u64 == member {
             return self.wishes.seller;
         }
         self.wishes.buyer
@@ -245,7 +257,7 @@ impl Obligation {
         ensures { λ r. ⌜ r ≡ withWish member self ⌝ }
     {
         let mut next = self;
-        if self.deal.seller == member {
+        if self.deal.seller as u64 == member {
             next.wishes.seller = true;
             return next;
         }
@@ -267,7 +279,7 @@ impl Obligation {
     {
         let next = self.with_wish(member);
         if next.both_wish() {
-            next.move_to(Part::Cancelled, next.parts.outstanding)
+            next.move_to(Part::Cancelled, next.parts.outstanding as u64)
         } else {
             next
         }
@@ -279,9 +291,22 @@ impl Obligation {
     {
         let next = self.with_wish(member);
         if next.both_wish() {
-            self.parts.outstanding
+            self.parts.outstanding as u64
         } else {
             0
+        }
+    }
+}
+
+impl Change {
+    // What a call comes to that is refused by a number.
+    pub fn refused(number: u64) -> Change
+        ensures { λ r. ⌜ r ≡ refusedChange number ⌝ }
+    {
+        Change {
+            answer: number,
+            result: 0,
+            obligation: NO_OBLIGATION,
         }
     }
 }
@@ -305,20 +330,26 @@ impl Ledger {
         ensures { λ r. ⌜ r ≡ fetched self number ⌝ }
     {
         let count = self.count;
+        let rows = self.obligations;
         if number < count as u64 {
             let i = number as usize;
-            return Fetched::Found(self.obligations[i]);
+            return Fetched::Found(rows[i]);
         }
         Fetched::Absent
     }
 
-    // Puts another obligation under a number.
-    pub fn replace(mut self, number: u64, next: Obligation) -> Ledger
-        requires { ⌜ number < mostObligations ⌝ }
-        ensures { λ r. ⌜ r ≡ withObligation number next self ⌝ }
+    // Puts the obligation that a call has changed under its number. A refused call changes nothing.
+    pub fn change(mut self, number: u64, change: Change) -> Ledger
+        requires { ⌜ (change .answer ≡ 0 → number < mostObligations) ⌝ }
+        ensures { λ r. ⌜ r ≡ changed number change self ⌝ }
     {
-        let i = number as usize;
-        self.obligations[i] = next;
+        let mut rows = self.obligations;
+        if change.answer == 0 {
+            let i = number as usize;
+            let next = change.obligation;
+            rows[i] = next;
+        }
+        self.obligations = rows;
         self
     }
 
@@ -328,7 +359,9 @@ impl Ledger {
         ensures { λ r. ⌜ r ≡ withNew next self ⌝ }
     {
         let i = self.count;
-        self.obligations[i] = next;
+        let mut rows = self.obligations;
+        rows[i] = next;
+        self.obligations = rows;
         self.count = i + 1;
         self
     }

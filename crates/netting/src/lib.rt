@@ -3,7 +3,7 @@
 use amounts::Divided;
 ghost use mathlib.Core.Path.{_≡_};
 ghost use Prim.Native.Nat.{_*_, _≤_, _<_, _^_};
-ghost use lib.ListN.{getD};
+ghost use lib.ListN.{length, getD};
 ghost use lib.IntN.{natAbs};
 ghost use Rattle.basics.specs.Lists.{sum};
 ghost use Rattle.amounts.specs.Quotients.{divided};
@@ -45,21 +45,14 @@ pub fn owed_by(account: i64) -> u64
 
 // Moves cents from the account of one member to that of another. It reads the creditor's account after it has stored
 // the debit, so a transfer from a member to itself would change nothing.
-pub fn transfer(
-    accounts: [i64; MEMBER_COUNT],
-    debtor: usize,
-    creditor: usize,
-    cents: u64,
-) -> [i64; MEMBER_COUNT]
-    requires { ⌜ Transferable debtor creditor cents accounts ⌝ }
-    ensures { λ r. ⌜ r ≡ transferred debtor creditor cents accounts ⌝ }
+pub fn transfer(accounts: &mut [i64], debtor: usize, creditor: usize, cents: u64)
+    requires { ⌜ (Transferable debtor creditor cents (now accounts)) × (length (now accounts) ≡ memberCount) ⌝ }
+    ensures { λ _. ⌜ now (accounts .exit) ≡ transferred debtor creditor cents (now (accounts .entry)) ⌝ }
 {
-    let mut next = accounts;
-    let owing = next[debtor];
-    next[debtor] = owing - (cents as i64);
-    let due = next[creditor];
-    next[creditor] = due + (cents as i64);
-    next
+    let owing = accounts[debtor];
+    accounts[debtor] = owing - (cents as i64);
+    let due = accounts[creditor];
+    accounts[creditor] = due + (cents as i64);
 }
 
 // Returns the claims of all members.

@@ -11,12 +11,13 @@ ghost use Rattle.offers.specs.BuyIn.{given, boughtWith};
 // The most offers of a day; `mostOffers` in specs/.
 pub const MOST_OFFERS: usize = 64;
 
-// A supplier's offer for one obligation.
+// A supplier's offer for one obligation. The fields are as narrow as their limits allow, because the book holds many of
+// them, and they leave no gap between two offers.
 pub struct Offer {
-    pub obligation: u64,
-    pub supplier: u64,
-    pub quantity: u64,
-    pub price: u64,
+    pub obligation: u16,
+    pub supplier: u16,
+    pub quantity: u32,
+    pub price: u32,
 }
 
 // The offers of today, in the order of the auction. They are the first count rows.
@@ -28,7 +29,7 @@ pub struct Offers {
 // The quantity that an offer gives.
 pub struct Given {
     pub offer: Offer,
-    pub quantity: u64,
+    pub quantity: u32,
 }
 
 // What the offers for one obligation give, in the order of the auction. It is in the first count places.
@@ -76,11 +77,11 @@ fn either(test: bool, first: Offer, second: Offer) -> Offer
 
 // Returns the quantity that an offer gives to an obligation: the smaller of its own quantity and what is left, and 0 if
 // it is for another obligation.
-fn quantity_from(x: Offer, obligation: u64, left: u64) -> u64
+fn quantity_from(x: Offer, obligation: u64, left: u64) -> u32
     ensures { λ r. ⌜ r ≡ pick (eqb (x .obligation) obligation) (min (x .quantity) left) 0 ⌝ }
 {
-    if x.obligation == obligation {
-        return basics::smaller(x.quantity, left);
+    if x.obligation as u64 == obligation {
+        return basics::smaller(x.quantity as u64, left) as u32;
     }
     0
 }
@@ -142,7 +143,7 @@ impl Offers {
                     quantity: q,
                 };
                 count += 1;
-                rest -= q;
+                rest -= q as u64;
             }
             k += 1;
         }

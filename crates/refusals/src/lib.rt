@@ -9,7 +9,7 @@ use calendar::ClearingDays;
 use calendar::ClosedDays;
 use calendar::Day;
 use calendar::LAST_DAY;
-use instructions::Leg;
+use instructions::Instruction;
 use instructions::MOST_LEGS;
 use ledger::LATEST_DAY;
 use ledger::MOST_SUPPLIER;
@@ -20,6 +20,7 @@ use offers::MOST_OFFERS;
 ghost use mathlib.Core.Path.{_≡_};
 ghost use Prim.Native.Nat.{_≤_};
 ghost use Rattle.amounts.specs.Amounts.{mostOfferPrice, mostClosePrice};
+ghost use Rattle.instructions.specs.Legs.{legOf};
 ghost use Rattle.refusals.specs.Refusals.{outside, answer};
 ghost use Rattle.refusals.specs.Calls.{badFirst, badParties, badDay, enterRefusals, cancelRefusalsOf};
 ghost use Rattle.refusals.specs.Calls.{deliverRefusalsOf, offerRefusalsIn, offerRefusalsOf, badRates, closeRefusalsIn};
@@ -59,19 +60,19 @@ fn is_bad_day(closed_days: ClosedDays, today: Day, day: Day) -> bool
 }
 
 // The answer number of an instruction, in a book with these closed days, this day and this many legs.
-pub fn enter_answer(closed_days: ClosedDays, today: Day, legs: usize, leg: Leg) -> u64
-    ensures { λ r. ⌜ r ≡ answer (enterRefusals «closed_days» today legs leg) ⌝ }
+pub fn enter_answer(closed_days: ClosedDays, today: Day, legs: usize, asked: Instruction) -> u64
+    ensures { λ r. ⌜ r ≡ answer (enterRefusals «closed_days» today legs (legOf asked)) ⌝ }
 {
-    if are_bad_parties(leg.member, leg.other, leg.side) {
+    if are_bad_parties(asked.member, asked.other, asked.side) {
         return 1;
     }
-    if is_outside(1, MOST_QUANTITY, leg.quantity) {
+    if is_outside(1, MOST_QUANTITY, asked.quantity) {
         return 2;
     }
-    if is_outside(1, MOST_AMOUNT, leg.amount) {
+    if is_outside(1, MOST_AMOUNT, asked.amount) {
         return 3;
     }
-    if is_bad_day(closed_days, today, leg.day) {
+    if is_bad_day(closed_days, today, asked.day) {
         return 11;
     }
     if MOST_LEGS <= legs {
@@ -97,7 +98,7 @@ pub fn cancel_answer(found: Obligation, member: u64) -> u64
 pub fn deliver_answer(today: Day, found: Obligation, quantity: u64) -> u64
     ensures { λ r. ⌜ r ≡ answer (deliverRefusalsOf today found quantity) ⌝ }
 {
-    if found.parts.outstanding < quantity {
+    if (found.parts.outstanding as u64) < quantity {
         return 15;
     }
     if today.0 < found.deal.day.0 {
@@ -143,7 +144,7 @@ pub fn offer_answer_of(
     if MOST_OFFERS <= offers {
         return 17;
     }
-    if amounts::above_cap(price, found.stage.grace_price) {
+    if amounts::above_cap(price, found.stage.grace_price as u64) {
         return 18;
     }
     0

@@ -247,11 +247,11 @@ pub fn shown(shown: Shown) -> Answer
     let numbers = [
         shown.answer,
         shown.quantity,
-        parts.delivered,
-        parts.bought_in,
-        parts.compensated,
-        parts.cancelled,
-        parts.outstanding,
+        parts.delivered as u64,
+        parts.bought_in as u64,
+        parts.compensated as u64,
+        parts.cancelled as u64,
+        parts.outstanding as u64,
     ];
     Answer::numbers(&numbers)
 }

@@ -3,7 +3,7 @@ use Prim.Native.Nat.{ℕ, zero, suc, _+_, _/_, _%_, _^_, _≤_, _<_}
 use native.Mathlib.Nat.{pow-suc}
 use native.Mathlib.Omega.{arith}
 use mathlib.Core.Path.{_≡_, sym, ap, _∙_}
-use mathlib.Core.List.{List, [], _∷_, _++_}
+use mathlib.Core.List.{List, [], _∷_, _++_, append-assoc}
 use lib.Dec.{ltb}
 use lib.IntN.{ℤ, pos, negsuc}
 use lib.ListN.{length, length-append}
@@ -58,10 +58,27 @@ unfolding digitsWithin
 digits-last n h = rw (le-ltb n 10 h)
 
 -- any other number has the digits of its tenth part, and then its last digit
-pub digits-more : (n : ℕ) → 10 ≤ n → n < 2 ^ 64 → digitsOf n ≡ digitsOf (n / 10) ++ digit (n % 10) ∷ []
+digits-tenth : (n : ℕ) → 10 ≤ n → n < 2 ^ 64 → digitsOf n ≡ digitsOf (n / 10) ++ digit (n % 10) ∷ []
 unfolding digitsOf
-digits-more n h f =
+digits-tenth n h f =
     digits-last n h ∙ ap (λ (l : List ℕ). l ++ digit (n % 10) ∷ []) (sym (digits-fewer 18 (n / 10) (omega arith)))
+
+-- a number from 10 up to 99 has two digits
+pub digits-pair : (n : ℕ) → 10 ≤ n → n < 100 → digitsOf n ≡ digit (n / 10) ∷ digit (n % 10) ∷ []
+digits-pair n h f =
+    digits-tenth n h (omega arith) ∙ ap (λ (l : List ℕ). l ++ digit (n % 10) ∷ []) (digits-one (n / 10) (omega arith))
+
+-- a number from 100 on has the digits of its hundredth part, and then its last two digits
+pub digits-more : (n : ℕ) → 100 ≤ n → n < 2 ^ 64
+    → digitsOf n ≡ digitsOf (n / 100) ++ digit (n % 100 / 10) ∷ digit (n % 100 % 10) ∷ []
+digits-more n h f =
+    let hundredth : n / 10 / 10 ≡ n / 100 = omega arith in
+    let first : n / 10 % 10 ≡ n % 100 / 10 = omega arith in
+    let second : n % 10 ≡ n % 100 % 10 = omega arith in
+    digits-tenth n (omega arith) f
+    ∙ ap (λ (l : List ℕ). l ++ digit (n % 10) ∷ []) (digits-tenth (n / 10) (omega arith) (omega arith))
+    ∙ append-assoc (digitsOf (n / 10 / 10)) (digit (n / 10 % 10) ∷ []) (digit (n % 10) ∷ [])
+    ∙ rw (hundredth, first, second)
 
 -- every number has at least one digit
 pub digits-some : (k n : ℕ) → 0 < length (digitsWithin (suc k) n)
@@ -71,7 +88,8 @@ digits-some k n =
     (λ e. omega arith)
     (λ e. omega (arith, length-append (digitsWithin k (n / 10)) (digit (n % 10) ∷ [])))
 
--- the tenth part of a number has one digit fewer
-pub digits-shorter : (n : ℕ) → 10 ≤ n → n < 2 ^ 64 → length (digitsOf n) ≡ length (digitsOf (n / 10)) + 1
+-- the hundredth part of a number has two digits fewer
+pub digits-shorter : (n : ℕ) → 100 ≤ n → n < 2 ^ 64 → length (digitsOf n) ≡ length (digitsOf (n / 100)) + 2
 digits-shorter n h f =
-    ap length (digits-more n h f) ∙ length-append (digitsOf (n / 10)) (digit (n % 10) ∷ [])
+    ap length (digits-more n h f)
+    ∙ length-append (digitsOf (n / 100)) (digit (n % 100 / 10) ∷ digit (n % 100 % 10) ∷ [])

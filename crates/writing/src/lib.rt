@@ -1,11 +1,11 @@
 // Writes numbers, labels and line feeds as text at a place of the output. Each function that writes answers the place
 // after what it wrote. The bytes between words and between lines stand here, and so does the search for them.
 ghost use mathlib.Core.Path.{_≡_};
-ghost use mathlib.Core.List.{_∷_, map};
-ghost use Prim.Native.Nat.{_+_, _*_, _≤_, _<_};
+ghost use mathlib.Core.List.{[], _∷_, map};
+ghost use Prim.Native.Nat.{_+_, _*_, _/_, _%_, _≤_, _<_};
 ghost use lib.ListN.{length};
 ghost use Rattle.basics.specs.Lists.{between, upTo};
-ghost use Rattle.writing.specs.Digits.{digitsOf, signedOf};
+ghost use Rattle.writing.specs.Digits.{digit, digitsOf, signedOf};
 ghost use Rattle.writing.specs.Words.{space, spaced};
 ghost use Rattle.writing.specs.Answers.{Wrote, textOf, answerOf, labelled, noCallOf, endOf};
 
@@ -43,26 +43,51 @@ pub fn write_bytes(out: &mut [u8], at: usize, bytes: &[u8]) -> usize
     at + i
 }
 
-// Writes the digits of a number at a place: those of its tenth part, and then the last one.
+// Writes the digit of a number below 10 at a place.
+fn put_digit(out: &mut [u8], at: usize, n: u64) -> usize
+    requires { ⌜ (n < 10) × (at < length (now out)) ⌝ }
+    ensures { λ r. ⌜ Wrote (digit n ∷ []) (now (out .entry)) at (now (out .exit)) r ⌝ }
+{
+    out[at] = b'0' + n as u8;
+    at + 1
+}
+
+// Writes the two digits of a number below 100 at a place.
+fn put_pair(out: &mut [u8], at: usize, n: u64) -> usize
+    requires { ⌜ (n < 100) × (at + 2 ≤ length (now out)) ⌝ }
+    ensures { λ r. ⌜ Wrote (digit (n / 10) ∷ digit (n % 10) ∷ []) (now (out .entry)) at (now (out .exit)) r ⌝ }
+{
+    out[at] = b'0' + (n / 10) as u8;
+    out[at + 1] = b'0' + (n % 10) as u8;
+    at + 2
+}
+
+// Writes the digits of a number at a place: those of its hundredth part, and then the last two. They are written in
+// pairs because a division costs more than the rest.
 fn put_digits(out: &mut [u8], at: usize, n: u64) -> usize
     requires { ⌜ at + length (digitsOf n) ≤ length (now out) ⌝ }
     ensures { λ r. ⌜ Wrote (digitsOf n) (now (out .entry)) at (now (out .exit)) r ⌝ }
 {
     if n < 10 {
-        out[at] = b'0' + n as u8;
-        return at + 1;
+        return put_digit(out, at, n);
     }
-    let next = put_digits(out, at, n / 10);
-    out[next] = b'0' + (n % 10) as u8;
-    next + 1
+    if n < 100 {
+        return put_pair(out, at, n);
+    }
+    let next = put_digits(out, at, n / 100);
+    put_pair(out, next, n % 100)
 }
 
-// Writes a number at a place, in at most 20 digits.
+// Writes a number at a place, in at most 20 digits. Most numbers of an answer have one digit, and these do not go through
+// the function that calls itself, since that costs more than the digit.
 pub fn write_number(out: &mut [u8], at: usize, n: u64) -> usize
     requires { ⌜ at + 20 ≤ length (now out) ⌝ }
     ensures { λ r. ⌜ Wrote (digitsOf n) (now (out .entry)) at (now (out .exit)) r ⌝ }
 {
-    put_digits(out, at, n)
+    if 10 <= n {
+        return put_digits(out, at, n);
+    }
+    put_digit(out, at, n)
 }
 
 // Writes a number with its sign at a place. The size of a negative number is computed as 1 more than its distance from
@@ -85,7 +110,7 @@ pub fn write_spaced(out: &mut [u8], at: usize, n: u64) -> usize
     ensures { λ r. ⌜ Wrote (space ∷ digitsOf n) (now (out .entry)) at (now (out .exit)) r ⌝ }
 {
     out[at] = SPACE;
-    put_digits(out, at + 1, n)
+    write_number(out, at + 1, n)
 }
 
 // Writes numbers at a place, with a space in front of each.

@@ -1,24 +1,147 @@
--- `close` meets its contract.
+-- `close` meets its contract. The loop's invariant: the first i obligations are closed, and their penalties moved.
+use native.Mathlib.Nat.{le-antisymm}
+use native.Mathlib.Numerals.{add-one}
+use native.Mathlib.Omega.{arith}
+use Prim.Native.Nat.{ℕ, _-_, _≤_, _<_}
+use mathlib.Core.Path.{_≡_, refl, sym, subst, ap, _∙_}
+use mathlib.Core.List.{List}
+use lib.ListN.{length, getD}
 use borrow.Author.Needs.{needs}
+use Rattle.netting.specs.Accounts.{memberCount}
+use Rattle.ledger.specs.declared.Obligation.{Obligation}
+use Rattle.ledger.specs.Obligations.{noObligation}
+use Rattle.ledger.specs.Ledger.{obligationAt}
+use Rattle.offers.specs.Held.{listed}
+use Rattle.closing.specs.Close.{accountsUpTo}
+use Rattle.closing.proofs.Together.{Done, rows-behind, done-none, done-one, done-length, done-all, done-room, done-closes, lines-most}
+use Rattle.closing.proofs.Fines.{bounded-up-to, accounts-length}
 use Rattle.closing.proofs.close.Statement.{statement}
 use Rattle.closing.proofs.close.Tie as tie
 
-fine-all-requires : tie.Need-fine-all-requires
-fine-all-requires c κs = search needs
+abbrev Inv-loop : tie.InvT-loop
+Inv-loop l day lines₀ offers n rows₀ accounts₀ count₀ i₀ lines rows accounts count i =
+    (i ≤ n) × (Done day (listed offers) rows₀ i rows count lines₀ lines)
+    × (accounts ≡ accountsUpTo (day .today) (day .price) (day .rate) rows₀ accounts₀ i)
 
-close-all-requires : tie.Need-close-all-requires
-close-all-requires c κs = search needs
+abbrev μ-loop : tie.MeasureT-loop
+μ-loop l day lines₀ offers n rows₀ accounts₀ count₀ i₀ lines rows accounts count i = n - i
 
-none-requires : tie.Need-none-requires
+-- where the loop begins
+abbrev start : tie.At-loop Inv-loop μ-loop → tie.Start Inv-loop μ-loop
+start c = c .before .before .before .before .before
+
+-- the obligation that a turn reads is still as it was
+same : (c : tie.At-loop Inv-loop μ-loop) → getD (c .loop .rows) (c .loop .i) noObligation ≡ obligationAt (start c .args .l) (c .loop .i)
+same c =
+    ap (λ (os : List Obligation). getD os (c .loop .i) noObligation) (c .loop .inv .1 .rows)
+    ∙ rows-behind (start c .args .day) (start c .args .l .obligations) (listed (start c .args .l .offers)) (c .loop .i) (c .loop .i) (omega arith)
+
+-- there is an account of each member
+sized : (c : tie.At-loop Inv-loop μ-loop) → length (c .loop .accounts) ≡ memberCount
+sized c =
+    let s = start c in
+    let a = s .args in
+    ap length (c .loop .inv .2)
+    ∙ accounts-length (a .day .today) (a .day .price) (a .day .rate) (a .l .obligations) (a .l .accounts) (c .loop .i)
+    ∙ s .pre .valid .accounts .size
+
+-- the obligation of a turn has a place
+placed : (c : tie.In-loop Inv-loop μ-loop) → c .before .loop .i < 64
+placed c = omega (arith, c .loop-test .taken, start (c .before) .pre .valid .few)
+
+loop-holds : tie.Need-loop-holds Inv-loop μ-loop
+unfolding accountsUpTo
+loop-holds c = (omega arith, done-none _ _ _ _, refl)
+
+mul-o : tie.Need-mul-o Inv-loop μ-loop
+mul-o c = search needs
+
+array-copy-out-o : tie.Need-array-copy-out-o Inv-loop μ-loop
+array-copy-out-o c = placed c
+
+slice-aggregate-fine : tie.Need-slice-aggregate-fine Inv-loop μ-loop
+slice-aggregate-fine c = sym (sized (c .before .before .before))
+
+fine-requires : tie.Need-fine-requires Inv-loop μ-loop
+fine-requires c κs =
+    let turn = c .before .before .before in
+    let s = start turn in
+    let h = s .pre in
+    let moved = bounded-up-to (s .args .day .today) (s .args .day .price) (s .args .day .rate) (s .args .l) (h .valid) (h .price-most) (h .rate-most) _ (turn .loop .inv .0) (h .accounts-near) in
+    ((rw (same turn) (h .valid .sound _ (c .before .before .loop-test .taken)), h .price-most, h .rate-most), (rw (turn .loop .inv .2) moved, sized turn))
+
+close-one-requires : tie.Need-close-one-requires Inv-loop μ-loop
+close-one-requires c κs =
+    let turn = c .before .before .before .before .before .before in
+    let s = start turn in
+    let more = c .before .before .before .before .before .loop-test .taken in (
+      rw (same turn) (done-closes (s .args .day) (s .args .l) _ _ (s .pre) more),
+      rw (same turn) (done-room (s .args .day) (s .args .l) _ _ _ _ _ (s .pre) more (turn .loop .inv .1)),
+    )
+
+mul-rows : tie.Need-mul-rows Inv-loop μ-loop
+mul-rows c = record { fits = omega (arith, placed (c .before .before .before .before .before .before .before .before .before)) }
+
+array-set-from-rows : tie.Need-array-set-from-rows Inv-loop μ-loop
+array-set-from-rows c = placed (c .before .before .before .before .before .before .before .before .before)
+
+add-i : tie.Need-add-i Inv-loop μ-loop
+add-i c = record { fits = omega (arith, placed (c .before .before .before .before .before .before .before .before .before)) }
+
+loop-less : tie.Need-loop-less Inv-loop μ-loop
+loop-less c = let more = c .before .before .before .before .before .before .before .before .before .loop-test .taken in omega (arith, more)
+
+loop-again : tie.Need-loop-again Inv-loop μ-loop
+unfolding accountsUpTo
+loop-again c =
+    let turn = c .before .before .before .before .before .before .before .before .before .before in
+    let more = c .before .before .before .before .before .before .before .before .before .loop-test .taken in (
+      omega (arith, more),
+      done-one _ _ _ _ _ _ _ _ (turn .loop .inv .1) _ _ (rw (← same turn) (c .before .before .before .close-one .ensures)),
+      rw (add-one (turn .loop .i), ← turn .loop .inv .2, ← same turn) (c .before .before .before .before .before .before .fine .ensures),
+    )
+
+none-requires : tie.Need-none-requires Inv-loop μ-loop
 none-requires c κs = search needs
 
-same-length : tie.Need-same-length
-same-length c = search needs
+same-length : tie.Need-same-length Inv-loop μ-loop
+same-length c = done-length _ _ _ _ _ _ _ _ (c .before .before .loop .inv .1)
 
-returns : tie.Need-returns
-returns c = let a = c .before .before .before .before .before .before .before .before .args in let e = c .before .before .before .before .close-all .ensures in
-    record { result = λ i. record { obligations = e .result i; count = a .l .count; offers = c .none .ensures i; accounts = c .before .before .before .before .before .before .fine-all .ensures i }; counted = e .counted; words = e .words }
+returns : tie.Need-returns Inv-loop μ-loop
+returns c =
+    let turn = c .before .before in
+    let a = start turn .args in
+    let h = start turn .pre in
+    let all = le-antisymm (turn .loop .inv .0) (c .before .loop-test .left) in
+    let s : Done (a .day) (listed (a .l .offers)) (a .l .obligations) (a .l .count) (turn .loop .rows) (turn .loop .count) (a .lines .now) (turn .loop .lines) =
+    subst (λ (k : ℕ). Done (a .day) (listed (a .l .offers)) (a .l .obligations) k (turn .loop .rows) (turn .loop .count) (a .lines .now) (turn .loop .lines))
+    all (turn .loop .inv .1) in
+    let rows = done-all _ _ _ _ _ _ _ _ s
+    (omega (arith, lines-most (a .day) (a .l .obligations) (a .l .offers) (h .setup .terms) (h .valid .offers .few) (a .l .count) (h .valid .few), h .long)) in
+    let accounts = turn .loop .inv .2 ∙ ap (accountsUpTo (a .day .today) (a .day .price) (a .day .rate) (a .l .obligations) (a .l .accounts)) all in
+    record {
+      result = λ i. record { obligations = rows .result i; count = a .l .count; offers = c .none .ensures i; accounts = accounts i };
+      counted = rows .counted;
+      words = rows .words;
+    }
 
 pub close-spec : {M : Type 1} → statement M
 close-spec =
-    tie.close (tie.spec fine-all-requires close-all-requires none-requires same-length returns)
+    tie.close
+    (tie.spec
+    Inv-loop
+    μ-loop
+    loop-holds
+    mul-o
+    array-copy-out-o
+    slice-aggregate-fine
+    fine-requires
+    close-one-requires
+    mul-rows
+    array-set-from-rows
+    add-i
+    loop-less
+    loop-again
+    none-requires
+    same-length
+    returns)

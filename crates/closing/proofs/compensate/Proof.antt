@@ -9,12 +9,15 @@ use Rattle.ledger.proofs.Keeping.{outstanding-most}
 use Rattle.closing.proofs.compensate.Statement.{statement}
 use Rattle.closing.proofs.compensate.Tie as tie
 
+cast-left : tie.Need-cast-left
+cast-left c = search needs
+
 returns : tie.Need-returns
 unfolding compensatedAt compensated
-returns c = rw (eq-eqb _ _ (c .before .before .if1 .taken), eq-eqb _ _ (c .if2 .taken)) (wrote-nothing (c .before .before .before .before .before .before .args .s) _)
+returns c = rw (eq-eqb _ _ (c .before .before .before .if1 .taken), eq-eqb _ _ (c .if2 .taken)) (wrote-nothing (c .before .before .before .before .before .before .before .args .s) _)
 
 compensation-of-requires : tie.Need-compensation-of-requires
-compensation-of-requires c κs = let h = c .before .before .before .before .before .before .pre .0 in (outstanding-most _ (h .0), h .1)
+compensation-of-requires c κs = let h = c .before .before .before .before .before .before .before .pre .0 in (outstanding-most _ (h .0), h .1)
 
 plain-line-requires : tie.Need-plain-line-requires
 plain-line-requires c κs = search needs
@@ -23,14 +26,20 @@ move-to-requires : tie.Need-move-to-requires
 move-to-requires c κs = search needs
 
 report-requires : tie.Need-report-requires
-report-requires c κs = omega (arith, compensated-one (c .before .before .before .before .before .before .before .before .before .before .args .terms) (c .before .before .before .before .before .before .before .before .before .before .args .age .0) (c .before .before .before .before .before .before .before .before .before .before .args .price) (c .before .before .before .before .before .before .before .before .before .before .args .number) (c .before .before .before .before .before .before .before .before .before .before .args .s .obligation) (c .before .before .before .before .before .before .if1 .taken) (c .before .before .before .before .if2 .left), c .before .before .before .before .before .before .before .before .before .before .pre .1)
+report-requires c κs =
+    let s = c .before .before .before .before .before .before .before .before .before .before .before in
+    omega (
+      arith,
+      compensated-one (s .args .terms) (s .args .age .0) (s .args .price) (s .args .number) (s .args .s .obligation) (c .before .before .before .before .before .before .before .if1 .taken) (c .before .before .before .before .if2 .left),
+      s .pre .1,
+    )
 
 same-length : tie.Need-same-length
 same-length c = search needs
 
 returns-2 : tie.Need-returns-2
 unfolding compensatedAt compensated
-returns-2 c = rw (eq-eqb _ _ (c .before .before .before .before .before .before .before .before .before .if1 .taken), ne-eqb _ _ (c .before .before .before .before .before .before .before .if2 .left), ← c .before .before .before .before .before .before .compensation-of .ensures, ← c .before .before .before .before .before .plain-line .ensures, ← c .before .before .before .before .move-to .ensures) (c .before .before .report .ensures)
+returns-2 c = rw (eq-eqb _ _ (c .before .before .before .before .before .before .before .before .before .before .if1 .taken), ne-eqb _ _ (c .before .before .before .before .before .before .before .if2 .left), ← c .before .before .before .before .before .before .compensation-of .ensures, ← c .before .before .before .before .before .plain-line .ensures, ← c .before .before .before .before .move-to .ensures) (c .before .before .report .ensures)
 
 returns-3 : tie.Need-returns-3
 unfolding compensatedAt
@@ -40,6 +49,7 @@ pub compensate-spec : {M : Type 1} → statement M
 compensate-spec =
     tie.close
     (tie.spec
+    cast-left
     returns
     compensation-of-requires
     plain-line-requires

@@ -58,11 +58,17 @@ array-copy-out-second c = search needs
 compared-requires : tie.Need-compared-requires
 compared-requires c κs = search needs
 
+cast-compared : tie.Need-cast-compared
+cast-compared c = search needs
+
 compared-requires-2 : tie.Need-compared-requires-2
 compared-requires-2 c κs = search needs
 
 add-result : tie.Need-add-result
 add-result c = search needs
+
+cast-compared-2 : tie.Need-cast-compared-2
+cast-compared-2 c = search needs
 
 compared-requires-3 : tie.Need-compared-requires-3
 compared-requires-3 c κs = search needs
@@ -70,11 +76,17 @@ compared-requires-3 c κs = search needs
 add-result-2 : tie.Need-add-result-2
 add-result-2 c = search needs
 
+cast-compared-3 : tie.Need-cast-compared-3
+cast-compared-3 c = search needs
+
 compared-requires-4 : tie.Need-compared-requires-4
 compared-requires-4 c κs = search needs
 
 add-result-3 : tie.Need-add-result-3
 add-result-3 c = search needs
+
+cast-compared-4 : tie.Need-cast-compared-4
+cast-compared-4 c = search needs
 
 compared-requires-5 : tie.Need-compared-requires-5
 compared-requires-5 c κs = search needs
@@ -84,16 +96,21 @@ add-result-4 c = search needs
 
 returns : tie.Need-returns
 unfolding overtakes insertedBy offersFor withGiven givenBy given
-returns c = let one = c .before .before .before .before .before .before .before .before .before .before .before .before .before .insert .ensures ∙ ap₂ withOffer (c .before .before .before .before .before .before .before .before .before .before .before .before .before .before .before .none .ensures) (c .before .before .before .before .before .before .before .before .before .before .before .before .before .before .offered .ensures) in
-    let two = c .before .before .before .before .before .before .before .before .before .before .before .insert2 .ensures ∙ ap₂ withOffer one (c .before .before .before .before .before .before .before .before .before .before .before .before .offered2 .ensures) in
-    let three = c .before .before .before .before .before .before .before .before .before .insert3 .ensures ∙ ap₂ withOffer two (c .before .before .before .before .before .before .before .before .before .before .offered3 .ensures) in
-    let bought = c .before .before .before .before .before .before .before .before .buy-in .ensures ∙ ap gives three in
+returns c =
+    let sold = c .before .before .before .before .before .before .before .before .before .before .before .before in
+    let third = sold .before in
+    let second = third .before .before in
+    let first = second .before .before in
+    let one = first .insert .ensures ∙ ap₂ withOffer (first .before .before .none .ensures) (first .before .offered .ensures) in
+    let two = second .insert2 .ensures ∙ ap₂ withOffer one (second .before .offered2 .ensures) in
+    let three = third .insert3 .ensures ∙ ap₂ withOffer two (third .before .offered3 .ensures) in
+    let bought = sold .buy-in .ensures ∙ ap gives three in
     omega (
       arith,
-      none-differs (ap (λ (b : BuyIn). b .count) bought) (c .before .before .before .before .compared .ensures .0),
-      none-differs (ap (λ (b : BuyIn). rowAt 0 b .offer .supplier) bought) (c .before .before .before .compared2 .ensures .0),
-      none-differs (ap (λ (b : BuyIn). rowAt 0 b .quantity) bought) (c .before .before .compared3 .ensures .0),
-      none-differs (ap (λ (b : BuyIn). rowAt 1 b .offer .supplier) bought) (c .before .compared4 .ensures .0),
+      none-differs (ap (λ (b : BuyIn). b .count) bought) (c .before .before .before .before .before .before .before .before .compared .ensures .0),
+      none-differs (ap (λ (b : BuyIn). rowAt 0 b .offer .supplier) bought) (c .before .before .before .before .before .before .compared2 .ensures .0),
+      none-differs (ap (λ (b : BuyIn). rowAt 0 b .quantity) bought) (c .before .before .before .before .compared3 .ensures .0),
+      none-differs (ap (λ (b : BuyIn). rowAt 1 b .offer .supplier) bought) (c .before .before .compared4 .ensures .0),
       none-differs (ap (λ (b : BuyIn). rowAt 1 b .quantity) bought) (c .compared5 .ensures .0),
     )
 
@@ -112,12 +129,16 @@ auction-spec =
     array-copy-out-first
     array-copy-out-second
     compared-requires
+    cast-compared
     compared-requires-2
     add-result
+    cast-compared-2
     compared-requires-3
     add-result-2
+    cast-compared-3
     compared-requires-4
     add-result-3
+    cast-compared-4
     compared-requires-5
     add-result-4
     returns)

@@ -1,10 +1,14 @@
 -- `deliver_answer` meets its contract.
 use mathlib.Core.Path.{sym, _∙_}
+use borrow.Author.Needs.{needs}
 use borrow.Author.Tests.{lt-ltb, le-ltb}
 use Rattle.refusals.specs.Calls.{deliverRefusalsOf}
 use Rattle.refusals.proofs.Refusals.{pass, stop, all-passed}
 use Rattle.refusals.proofs.deliver_answer.Statement.{statement}
 use Rattle.refusals.proofs.deliver_answer.Tie as tie
+
+cast-if1 : tie.Need-cast-if1
+cast-if1 c = search needs
 
 returns : tie.Need-returns
 unfolding deliverRefusalsOf
@@ -19,4 +23,4 @@ unfolding deliverRefusalsOf
 returns-3 c = sym (pass 15 _ (le-ltb _ _ (c .before .before .before .if1 .left)) ∙ pass 16 _ (le-ltb _ _ (c .if2 .left)) ∙ all-passed)
 
 pub deliver-answer-spec : {M : Type 1} → statement M
-deliver-answer-spec = tie.close (tie.spec returns returns-2 returns-3)
+deliver-answer-spec = tie.close (tie.spec cast-if1 returns returns-2 returns-3)

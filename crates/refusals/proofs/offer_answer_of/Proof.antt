@@ -25,16 +25,19 @@ returns-3 : tie.Need-returns-3
 unfolding offerRefusalsOf
 returns-3 c = sym (pass 15 _ (ne-eqb _ _ (c .before .before .before .before .before .before .if1 .left)) ∙ pass 16 _ (rw (le-ltb _ _ (c .before .before .before .if2 .left), ← c .before .before .buys-in .ensures, c .before .if3 .left)) ∙ stop 17 _ (le-leb _ _ (c .if4 .taken)))
 
+cast-above-cap : tie.Need-cast-above-cap
+cast-above-cap c = search needs
+
 above-cap-requires : tie.Need-above-cap-requires
 above-cap-requires c κs = search needs
 
 returns-4 : tie.Need-returns-4
 unfolding offerRefusalsOf
-returns-4 c = sym (pass 15 _ (ne-eqb _ _ (c .before .before .before .before .before .before .before .before .if1 .left)) ∙ pass 16 _ (rw (le-ltb _ _ (c .before .before .before .before .before .if2 .left), ← c .before .before .before .before .buys-in .ensures, c .before .before .before .if3 .left)) ∙ pass 17 _ (lt-leb _ _ (c .before .before .if4 .left)) ∙ stop 18 _ (sym (c .before .above-cap .ensures) ∙ c .if5 .taken))
+returns-4 c = sym (pass 15 _ (ne-eqb _ _ (c .before .before .before .before .before .before .before .before .before .if1 .left)) ∙ pass 16 _ (rw (le-ltb _ _ (c .before .before .before .before .before .before .if2 .left), ← c .before .before .before .before .before .buys-in .ensures, c .before .before .before .before .if3 .left)) ∙ pass 17 _ (lt-leb _ _ (c .before .before .before .if4 .left)) ∙ stop 18 _ (sym (c .before .above-cap .ensures) ∙ c .if5 .taken))
 
 returns-5 : tie.Need-returns-5
 unfolding offerRefusalsOf
-returns-5 c = sym (pass 15 _ (ne-eqb _ _ (c .before .before .before .before .before .before .before .before .if1 .left)) ∙ pass 16 _ (rw (le-ltb _ _ (c .before .before .before .before .before .if2 .left), ← c .before .before .before .before .buys-in .ensures, c .before .before .before .if3 .left)) ∙ pass 17 _ (lt-leb _ _ (c .before .before .if4 .left)) ∙ pass 18 _ (sym (c .before .above-cap .ensures) ∙ c .if5 .left) ∙ all-passed)
+returns-5 c = sym (pass 15 _ (ne-eqb _ _ (c .before .before .before .before .before .before .before .before .before .if1 .left)) ∙ pass 16 _ (rw (le-ltb _ _ (c .before .before .before .before .before .before .if2 .left), ← c .before .before .before .before .before .buys-in .ensures, c .before .before .before .before .if3 .left)) ∙ pass 17 _ (lt-leb _ _ (c .before .before .before .if4 .left)) ∙ pass 18 _ (sym (c .before .above-cap .ensures) ∙ c .if5 .left) ∙ all-passed)
 
 pub offer-answer-of-spec : {M : Type 1} → statement M
 offer-answer-of-spec =
@@ -44,6 +47,7 @@ offer-answer-of-spec =
     buys-in-requires
     returns-2
     returns-3
+    cast-above-cap
     above-cap-requires
     returns-4
     returns-5)

@@ -1,145 +1,98 @@
--- `put_digits` meets its contract: it calls itself for the digits of the number's tenth part, and then writes the last
--- digit. The measure is the number.
+-- `put_digits` meets its contract. A number below 100 has one digit or two. For any other it calls itself with the
+-- number's hundredth part, and then writes the last two digits. The number is the measure.
 use Prim.Native.Nat.{ℕ, _<_}
 use native.Mathlib.Omega.{arith}
-use mathlib.Core.Path.{ap}
-use lib.ListN.{length, length-set}
+use mathlib.Core.Path.{ap, _∙_}
+use lib.ListN.{length}
 use borrow.Fn.Kinds.{In}
 use borrow.Fn.PlainCycle.{Measures, is, falls, and}
-use Rattle.writing.proofs.Digits.{digits-one, digits-more, digits-shorter}
-use Rattle.writing.proofs.Writing.{wrote-one, wrote-then, wrote-length}
-use Rattle.writing.proofs.put_digits.Reads as put-digits
-use Rattle.writing.proofs.put_digits.Kinds as put-digits-kinds
-use Rattle.writing.proofs.+put_digits.Lts-put_digits as put-digits-lts
 use Rattle.writing.proofs.+put_digits.{statement}
 use Rattle.writing.proofs.+put_digits.Tie.{close}
+use Rattle.writing.proofs.Digits.{digits-one, digits-pair, digits-more, digits-shorter}
+use Rattle.writing.proofs.Writing.{wrote-then, wrote-length}
+use Rattle.writing.proofs.put_digits.Reads as put-digits
+use Rattle.writing.proofs.put_digits.Kinds as kinds
+use Rattle.writing.proofs.+put_digits.Lts-put_digits as lts
+use Rattle.writing.proofs.put_digit.Reads as put-digit-reads
+use Rattle.writing.proofs.put_pair.Reads as put-pair-reads
 
-abbrev μ-put-digits : Measures 1 put-digits-kinds.ps ℕ
-μ-put-digits κs a = a .1 .1 .0
+abbrev μ : Measures 1 kinds.ps ℕ
+μ κs a = a .1 .1 .0
 
-abbrev put-digits-at : ℕ → In 1 put-digits-kinds.ps
-put-digits-at t =
-    and 1 put-digits-kinds.ps (is 1 put-digits-kinds.ps μ-put-digits t) put-digits.Pre
+-- what is shown of the call where the measure is t
+module _ (t : ℕ) where
+  abbrev at : In 1 kinds.ps
+  at = and 1 kinds.ps (is 1 kinds.ps μ t) put-digits.Pre
 
-abbrev put-digits-below : ℕ → In 1 put-digits-kinds.ps
-put-digits-below t =
-    and 1 put-digits-kinds.ps (falls 1 put-digits-kinds.ps _<_ μ-put-digits t) put-digits.Pre
+  -- what is known of the calls within it
+  abbrev known : lts.Claims
+  known = (
+    put-digit-reads.Asked,
+    put-digit-reads.Learnt,
+    put-pair-reads.Asked,
+    put-pair-reads.Learnt,
+    and 1 kinds.ps (falls 1 kinds.ps _<_ μ t) put-digits.Pre,
+    put-digits.Post,
+  )
 
-put-digits-cast-out :
-    (t : ℕ) →
-    put-digits-lts.Need-cast-out
-    (put-digits-below t, put-digits.Post)
-    (put-digits-at t)
-    put-digits.Post
-put-digits-cast-out t c = omega arith
+  put-digit-requires : lts.Need-put-digit-requires known at put-digits.Post
+  put-digit-requires c κs =
+      let o = c .before in
+      (o .if1 .taken, omega (arith, o .before .before .pre .1, ap length (digits-one _ (o .if1 .taken))))
 
-put-digits-add-out :
-    (t : ℕ) →
-    put-digits-lts.Need-add-out
-    (put-digits-below t, put-digits.Post)
-    (put-digits-at t)
-    put-digits.Post
-put-digits-add-out t c = omega arith
+  same-length : lts.Need-same-length known at put-digits.Post
+  same-length c = wrote-length (c .before .before .put-digit .ensures)
 
-put-digits-slice-write-out : (t : ℕ) → put-digits-lts.Need-slice-write-out (
-  put-digits-below t,
-  put-digits.Post,
-) (put-digits-at t) put-digits.Post
-put-digits-slice-write-out t c = omega (arith, c .before .before .pre .1, ap length (digits-one _ (c .if1 .taken)))
+  returns : lts.Need-returns known at put-digits.Post
+  returns c = rw (digits-one _ (c .before .before .before .before .if1 .taken)) (c .before .before .put-digit .ensures)
 
-put-digits-add-result : (t : ℕ) → put-digits-lts.Need-add-result (
-  put-digits-below t,
-  put-digits.Post,
-) (put-digits-at t) put-digits.Post
-put-digits-add-result t c = omega (arith, c .before .before .pre .1, ap length (digits-one _ (c .if1 .taken)))
+  put-pair-requires : lts.Need-put-pair-requires known at put-digits.Post
+  put-pair-requires c κs =
+      let o = c .before in
+      let pair = digits-pair _ (o .before .if1 .left) (o .if2 .taken) in
+      (o .if2 .taken, omega (arith, o .before .before .before .pre .1, ap length pair))
 
-put-digits-same-length : (t : ℕ) → put-digits-lts.Need-same-length (
-  put-digits-below t,
-  put-digits.Post,
-) (put-digits-at t) put-digits.Post
-put-digits-same-length t c = simp length-set
+  same-length-2 : lts.Need-same-length-2 known at put-digits.Post
+  same-length-2 c = wrote-length (c .before .before .put-pair .ensures)
 
-put-digits-returns :
-    (t : ℕ) →
-    put-digits-lts.Need-returns
-    (put-digits-below t, put-digits.Post)
-    (put-digits-at t)
-    put-digits.Post
-put-digits-returns t c = rw (digits-one _ (c .if1 .taken)) (wrote-one _ _ _)
+  returns-2 : lts.Need-returns-2 known at put-digits.Post
+  returns-2 c =
+      let o = c .before .before .before .before in
+      rw (digits-pair _ (o .before .if1 .left) (o .if2 .taken)) (c .before .before .put-pair .ensures)
 
-put-digits-put-digits-requires : (t : ℕ) → put-digits-lts.Need-put-digits-requires (
-  put-digits-below t,
-  put-digits.Post,
-) (put-digits-at t) put-digits.Post
-put-digits-put-digits-requires t c κs =
-    let known = c .before .before .before in
-    let shorter = digits-shorter _ (c .before .if1 .left) (known .fits .n .fits) in
-    (omega (arith, known .pre .0), omega (arith, known .pre .1, shorter))
+  put-digits-requires : lts.Need-put-digits-requires known at put-digits.Post
+  put-digits-requires c κs =
+      let o = c .before .before .before .before in
+      let shorter = digits-shorter _ (c .before .if2 .left) (o .fits .n .fits) in
+      (omega (arith, o .pre .0), omega (arith, o .pre .1, shorter))
 
-put-digits-cast-out-2 : (t : ℕ) → put-digits-lts.Need-cast-out-2 (
-  put-digits-below t,
-  put-digits.Post,
-) (put-digits-at t) put-digits.Post
-put-digits-cast-out-2 t c = omega arith
+  put-pair-requires-2 : lts.Need-put-pair-requires-2 known at put-digits.Post
+  put-pair-requires-2 c κs =
+      let wrote = c .before .before .before .put-digits .ensures in
+      let o = c .before .before .before .before .before .before .before .before in
+      let shorter = digits-shorter _ (c .before .before .before .before .before .if2 .left) (o .fits .n .fits) in
+      (omega arith, omega (arith, o .pre .1, wrote .place, wrote-length wrote, shorter))
 
-put-digits-add-out-2 : (t : ℕ) → put-digits-lts.Need-add-out-2 (
-  put-digits-below t,
-  put-digits.Post,
-) (put-digits-at t) put-digits.Post
-put-digits-add-out-2 t c = omega arith
+  same-length-3 : lts.Need-same-length-3 known at put-digits.Post
+  same-length-3 c =
+      let o = c .before .before in
+      wrote-length (o .put-pair2 .ensures) ∙ wrote-length (o .before .before .before .before .put-digits .ensures)
 
-put-digits-slice-write-out-2 : (t : ℕ) → put-digits-lts.Need-slice-write-out-2 (
-  put-digits-below t,
-  put-digits.Post,
-) (put-digits-at t) put-digits.Post
-put-digits-slice-write-out-2 t c =
-    let known = c .before .before .before .before .before .before in
-    let wrote = c .before .before .put-digits .ensures in
-    let shorter = digits-shorter _ (c .before .before .before .before .if1 .left) (known .fits .n .fits) in
-    omega (arith, known .pre .1, wrote .place, wrote-length wrote, shorter)
-
-put-digits-add-result-2 : (t : ℕ) → put-digits-lts.Need-add-result-2 (
-  put-digits-below t,
-  put-digits.Post,
-) (put-digits-at t) put-digits.Post
-put-digits-add-result-2 t c =
-    let known = c .before .before .before .before .before .before in
-    let wrote = c .before .before .put-digits .ensures in
-    let shorter = digits-shorter _ (c .before .before .before .before .if1 .left) (known .fits .n .fits) in
-    omega (arith, known .pre .1, wrote .place, wrote-length wrote, shorter)
-
-put-digits-same-length-2 : (t : ℕ) → put-digits-lts.Need-same-length-2 (
-  put-digits-below t,
-  put-digits.Post,
-) (put-digits-at t) put-digits.Post
-put-digits-same-length-2 t c = simp length-set (wrote-length (c .before .before .put-digits .ensures))
-
-put-digits-returns-2 : (t : ℕ) → put-digits-lts.Need-returns-2 (
-  put-digits-below t,
-  put-digits.Post,
-) (put-digits-at t) put-digits.Post
-put-digits-returns-2 t c =
-    let known = c .before .before .before .before .before .before in
-    rw (digits-more _ (c .before .before .before .before .if1 .left) (known .fits .n .fits))
-    (wrote-then (c .before .before .put-digits .ensures) (wrote-one _ _ _))
+  returns-3 : lts.Need-returns-3 known at put-digits.Post
+  returns-3 c =
+      let o = c .before .before .before .before .before .before in
+      rw (digits-more _ (o .before .before .if2 .left) (o .before .before .before .before .before .fits .n .fits))
+      (wrote-then (o .put-digits .ensures) (c .before .before .put-pair2 .ensures))
 
 pub +put-digits-spec : {M : Type 1} → statement M
-+put-digits-spec = close μ-put-digits λ t. put-digits-lts.spec (
-  put-digits-below t,
-  put-digits.Post,
-)
-    (put-digits-at t)
-    put-digits.Post
-    (put-digits-cast-out t)
-    (put-digits-add-out t)
-    (put-digits-slice-write-out t)
-    (put-digits-add-result t)
-    (put-digits-same-length t)
-    (put-digits-returns t)
-    (put-digits-put-digits-requires t)
-    (put-digits-cast-out-2 t)
-    (put-digits-add-out-2 t)
-    (put-digits-slice-write-out-2 t)
-    (put-digits-add-result-2 t)
-    (put-digits-same-length-2 t)
-    (put-digits-returns-2 t)
++put-digits-spec = close μ λ t. lts.spec (known t) (at t) put-digits.Post
+    (put-digit-requires t)
+    (same-length t)
+    (returns t)
+    (put-pair-requires t)
+    (same-length-2 t)
+    (returns-2 t)
+    (put-digits-requires t)
+    (put-pair-requires-2 t)
+    (same-length-3 t)
+    (returns-3 t)

@@ -1,88 +1,105 @@
 -- `offer` meets its contract.
-use mathlib.Core.Path.{_≡_, refl, sym, ap, _∙_}
+use Prim.Native.Nat.{ℕ, _<_}
+use native.Mathlib.Omega.{arith}
+use mathlib.Core.Path.{_≡_, refl, sym, ap, ap₂, _∙_}
+use mathlib.Core.Logic.{⊎-elim}
 use borrow.Author.Needs.{needs}
-use Rattle.book.specs.Book.{withLedger, todayOf, ageOf}
-use Rattle.book.specs.Buying.{offerDone, offer}
-use Rattle.refusals.specs.Calls.{offerRefusalsIn, offerRefusalsOf}
-use Rattle.book.specs.Instructing.{doneRefused}
+use Rattle.offers.specs.declared.Offers.{Offers}
+use Rattle.ledger.specs.Ledger.{fetched, obligationAt}
+use Rattle.ledger.proofs.Valid.{fetched-sound}
 use Rattle.refusals.specs.Refusals.{answer}
+use Rattle.refusals.specs.Calls.{fetchRefusals, offerRefusalsIn}
+use Rattle.refusals.proofs.Refusals.{refused-with, done-by}
+use Rattle.refusals.proofs.Offering.{Offered, offered, offers-few}
+use Rattle.refusals.proofs.Named.{fetch-passed, fetch-number}
 use Rattle.book.specs.declared.Done.{Done}
-use Rattle.calendar.specs.declared.ClearingDays.{ClearingDays}
+use Rattle.book.specs.Book.{withLedger, todayOf, ageOf}
+use Rattle.book.specs.Instructing.{doneRefused}
+use Rattle.book.specs.Buying.{offerRefusalsFor, offerNumber, offerDone, offer}
 use Rattle.book.proofs.Answers.{answered}
-use Rattle.book.proofs.Book.offer.Statement.{statement}
 use Rattle.book.proofs.Kept.{offer-valid}
-use Rattle.refusals.proofs.Offering.{input-price, offers-few}
-use Rattle.refusals.proofs.Named.{input-refused, absent-refused, found-refused, found-done}
-use Rattle.ledger.proofs.Valid.{There, found-there, there-sound}
+use Rattle.book.proofs.Book.offer.Statement.{statement}
 use Rattle.book.proofs.Book.offer.Tie as tie
 
-there : (c : tie.After-found) → There (c .before .before .before .before .before .before .args .self .ledger) (c .before .before .before .before .before .before .args .obligation) (c .found .given .0 .0)
-there c = found-there _ _ _ (sym (c .before .before .fetch .ensures) ∙ c .found .given .1)
+abbrev start : tie.After-offer-answer → tie.Start
+start c = c .before .before .before .before
 
-late : (c : tie.After-offer-answer-of) →
-    let a = c .before .before .before .before .before .before .before .before .before .before .before .before .args in
-    let o = c .before .before .before .before .before .before .found .given .0 .0 in
-    answer (offerRefusalsOf (a .self .setup .terms) (todayOf (a .self)) (ageOf (a .self) o) (a .self .ledger .offers .count) o (a .price)) ≡ c .offer-answer-of .result
-unfolding ageOf
-late c =
-    let a = c .before .before .before .before .before .before .before .before .before .before .before .before .args in
-    let o = c .before .before .before .before .before .before .found .given .0 .0 in
-    sym (c .offer-answer-of .ensures
-    ∙ ap (λ (g : ClearingDays). answer (offerRefusalsOf (a .self .setup .terms) (todayOf (a .self)) (g .0) (a .self .ledger .offers .count) o (a .price))) (c .before .age-at .ensures))
+-- the answer number, by the obligation that the book fetches
+number : (c : tie.After-offer-answer) →
+    let a = start c .args in
+    answer (fetchRefusals (offerRefusalsIn (a .supplier) (a .quantity) (a .price)) (fetched (a .self .ledger) (a .obligation)) (offerRefusalsFor (a .self) (a .price)))
+    ≡ c .offer-answer .result
+unfolding ageOf offerNumber
+number c =
+    let a = start c .args in
+    sym (c .offer-answer .ensures
+    ∙ ap (offerNumber (a .self .setup) (todayOf (a .self)) (a .self .ledger .offers .count) (a .supplier) (a .quantity) (a .price)) (c .before .fetch .ensures))
 
-offer-answer-requires : tie.Need-offer-answer-requires
-offer-answer-requires c κs = search needs
+-- an offer that is not refused
+passes : (c : tie.After-offer-answer) → c .offer-answer .result ≡ 0 →
+    let a = start c .args in
+    (a .obligation < a .self .ledger .count) × (answer (offerRefusalsIn (a .supplier) (a .quantity) (a .price)) ≡ 0)
+    × (answer (offerRefusalsFor (a .self) (a .price) (obligationAt (a .self .ledger) (a .obligation))) ≡ 0)
+unfolding offerRefusalsIn
+passes c e = let a = start c .args in fetch-passed _ (offerRefusalsFor (a .self) (a .price)) refl (a .self .ledger) (a .obligation) (number c ∙ e)
 
-returns : tie.Need-returns
-unfolding offer
-returns c = (input-refused _ _ _ (doneRefused _) _ _ (sym (c .before .offer-answer .ensures)) (c .if1 .taken), c .before .before .pre)
+-- its numbers
+numbers : (c : tie.Then1) → let a = start (c .before) .args in Offered (a .supplier) (a .quantity) (a .price)
+numbers c = offered _ _ _ (passes (c .before) (c .if1 .taken) .1)
 
 fetch-requires : tie.Need-fetch-requires
 fetch-requires c κs = search needs
 
-enum-known-found : tie.Need-enum-known-found
-enum-known-found c = search needs
+offer-answer-requires : tie.Need-offer-answer-requires
+offer-answer-requires c κs =
+    let s = c .before .before .before in
+    ((λ o e. fetched-sound (s .args .self .ledger) (s .pre .ledger) (s .args .obligation) o (sym (c .fetch .ensures) ∙ e)), s .pre .setup)
 
-enum-told : tie.Need-enum-told
-enum-told c = search needs
+cast-t11 : tie.Need-cast-t11
+cast-t11 c = record { fits = omega (arith, passes (c .before) (c .if1 .taken) .0, start (c .before) .pre .ledger .few) }
 
-returns-2 : tie.Need-returns-2
+cast-t12 : tie.Need-cast-t12
+cast-t12 c = record { fits = omega (arith, numbers c .supplier-most) }
+
+cast-t13 : tie.Need-cast-t13
+cast-t13 c = record { fits = omega (arith, numbers c .quantity-within .1) }
+
+cast-t14 : tie.Need-cast-t14
+cast-t14 c = record { fits = omega (arith, numbers c .price-within .1) }
+
+insert-requires : tie.Need-insert-requires
+insert-requires c κs = offers-few _ _ _ _ _ _ (passes (c .before) (c .if1 .taken) .2)
+
+returns : tie.Need-returns
 unfolding offer offerRefusalsIn
-returns-2 c = (absent-refused _ _ _ (doneRefused _) refl (sym (c .before .before .before .before .before .offer-answer .ensures) ∙ c .before .before .before .before .if1 .left) _ (sym (c .before .before .fetch .ensures) ∙ c .enum-told .given .1), c .before .before .before .before .before .before .pre)
-
-age-at-requires : tie.Need-age-at-requires
-age-at-requires c κs = search needs
-
-offer-answer-of-requires : tie.Need-offer-answer-of-requires
-offer-answer-of-requires c κs = (input-price _ _ _ (sym (c .before .before .before .before .before .before .before .before .before .before .offer-answer .ensures) ∙ c .before .before .before .before .before .before .before .before .before .if1 .left), there-sound _ (c .before .before .before .before .before .before .before .before .before .before .before .pre .ledger) _ _ (there (c .before .before .before .before .before)) .stage .price-most)
-
-returns-3 : tie.Need-returns-3
-unfolding offer offerRefusalsIn
-returns-3 c = (found-refused _ _ _ (doneRefused _) refl (sym (c .before .before .before .before .before .before .before .before .before .before .before .before .offer-answer .ensures) ∙ c .before .before .before .before .before .before .before .before .before .before .before .if1 .left) _ _ _ (sym (c .before .before .before .before .before .before .before .before .before .fetch .ensures) ∙ c .before .before .before .before .before .before .before .found .given .1) (late (c .before)) (c .if2 .taken), c .before .before .before .before .before .before .before .before .before .before .before .before .before .pre)
-
-offer-requires : tie.Need-offer-requires
-offer-requires c κs = offers-few _ _ _ _ _ _ (sym (c .before .offer-answer-of .ensures) ∙ c .if2 .left)
-
-returns-4 : tie.Need-returns-4
-unfolding offer offerRefusalsIn
-returns-4 c = let a = c .before .before .before .before .before .before .before .before .before .before .before .before .before .before .args in
+returns c =
+    let s = start (c .before) in
+    let a = s .args in
+    let l = a .self .ledger in
+    let input = offerRefusalsIn (a .supplier) (a .quantity) (a .price) in
+    let on = offerRefusalsFor (a .self) (a .price) in
+    let refusals = fetchRefusals input (fetched l (a .obligation)) on in
+    let done = offerDone (a .self) (a .obligation) (a .supplier) (a .quantity) (a .price) in
+    let made : ℕ → Offers → Done = λ (k : ℕ) (held : Offers).
+    record { answer = k; book = withLedger (record { obligations = l .obligations; count = l .count; offers = held; accounts = l .accounts }) (a .self) } in
+    let e = number (c .before) in
     answered (λ (r : Done). r .book)
-    ((λ i. record { answer = 0; book = withLedger (c .offer .ensures i) (a .self) })
-    ∙ found-done _ _ (λ o. offerDone (a .self) (a .obligation) (a .supplier) (a .quantity) (a .price)) (doneRefused _) refl (sym (c .before .before .before .before .before .before .before .before .before .before .before .before .before .offer-answer .ensures) ∙ c .before .before .before .before .before .before .before .before .before .before .before .before .if1 .left) _ _ (sym (c .before .before .before .before .before .before .before .before .before .before .fetch .ensures) ∙ c .before .before .before .before .before .before .before .before .found .given .1) (late (c .before .before) ∙ c .before .if2 .left))
-    (offer-valid _ (c .before .before .before .before .before .before .before .before .before .before .before .before .before .before .pre) (a .obligation) (a .supplier) (a .quantity) (a .price))
+    (⊎-elim
+    (λ w. ap₂ made (w .0 .taken) (w .2 ∙ w .1 .ensures) ∙ done-by refusals done (doneRefused (a .self)) (e ∙ w .0 .taken))
+    (λ w. ap (made _) (w .1) ∙ refused-with _ refusals done (doneRefused (a .self)) e (w .0 .left))
+    (c .if1 .came)
+    ∙ fetch-number input on (λ o. done) (doneRefused (a .self)) done refl (fetched l (a .obligation)))
+    (offer-valid _ (s .pre) (a .obligation) (a .supplier) (a .quantity) (a .price))
 
 pub offer-spec : {M : Type 1} → statement M
 offer-spec =
     tie.close
     (tie.spec
-    offer-answer-requires
-    returns
     fetch-requires
-    enum-known-found
-    enum-told
-    returns-2
-    age-at-requires
-    offer-answer-of-requires
-    returns-3
-    offer-requires
-    returns-4)
+    offer-answer-requires
+    cast-t11
+    cast-t12
+    cast-t13
+    cast-t14
+    insert-requires
+    returns)

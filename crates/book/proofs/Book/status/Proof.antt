@@ -21,9 +21,12 @@ returns : tie.Need-returns
 unfolding status
 returns c = (absent-refused [] (λ o. []) (statusDone _) (statusRefused _) refl all-passed _ (sym (c .before .before .fetch .ensures) ∙ c .enum-told .given .1), c .before .before .before .before .pre)
 
+cast-t8 : tie.Need-cast-t8
+cast-t8 c = search needs
+
 returns-2 : tie.Need-returns-2
 unfolding status
-returns-2 c = (found-done [] (λ o. []) (statusDone _) (statusRefused _) refl all-passed _ _ (sym (c .before .before .before .before .fetch .ensures) ∙ c .before .before .found .given .1) all-passed, c .before .before .before .before .before .before .pre)
+returns-2 c = (found-done [] (λ o. []) (statusDone _) (statusRefused _) refl all-passed _ _ (sym (c .before .before .before .before .before .fetch .ensures) ∙ c .before .before .before .found .given .1) all-passed, c .before .before .before .before .before .before .before .pre)
 
 pub status-spec : {M : Type 1} → statement M
-status-spec = tie.close (tie.spec fetch-requires enum-known-found enum-told returns returns-2)
+status-spec = tie.close (tie.spec fetch-requires enum-known-found enum-told returns cast-t8 returns-2)

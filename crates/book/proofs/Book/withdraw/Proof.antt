@@ -1,100 +1,78 @@
 -- `withdraw` meets its contract.
-use Prim.Native.Nat.{ℕ}
+use Prim.Native.Nat.{ℕ, _≤_, _<_}
 use native.Mathlib.Omega.{arith}
-use mathlib.Core.Path.{_≡_, refl, sym, ap, _∙_}
-use mathlib.Core.Bool.{true}
+use mathlib.Core.Path.{_≡_, refl, sym, ap, ap₂, _∙_}
+use mathlib.Core.Bool.{false≢true}
+use mathlib.Core.Logic.{⊎-elim}
 use borrow.Author.Needs.{needs}
-use borrow.Author.Tests.{lt-ltb, le-ltb, eq-eqb, ne-eqb, ltb-true}
-use Rattle.book.specs.Book.{withLegs}
-use Rattle.book.specs.Instructing.{withdrawRefusals, doneRefused, withdrawDone, withdrawBy, withdraw}
-use Rattle.book.specs.declared.Book.{Book}
-use Rattle.book.specs.declared.Done.{Done}
-use Rattle.instructions.specs.declared.Leg.{Leg}
 use Rattle.instructions.specs.declared.Legs.{Legs}
 use Rattle.instructions.specs.declared.FetchedLeg.{FetchedLeg}
 use Rattle.instructions.specs.declared.FetchedLeg.the-variants.{Found, Absent}
+use Rattle.instructions.specs.Legs.{mostLegs, fetchedLeg}
+use Rattle.instructions.proofs.Fetching.{fetched-leg-case}
+use Rattle.refusals.specs.Refusals.{answer}
+use Rattle.refusals.proofs.Refusals.{passed, refused-with, done-by}
+use Rattle.book.specs.declared.Book.{Book}
+use Rattle.book.specs.declared.Done.{Done}
+use Rattle.book.specs.Book.{withLegs}
+use Rattle.book.specs.Instructing.{withdrawRefusals, doneRefused, withdrawDone, withdrawBy, withdraw}
 use Rattle.book.proofs.Answers.{answered}
-use Rattle.book.proofs.Book.withdraw.Statement.{statement}
 use Rattle.book.proofs.Kept.{withdraw-valid}
-use Rattle.refusals.specs.Refusals.{answer, noMember}
-use Rattle.refusals.proofs.Refusals.{pass, stop, all-passed, refused-with, done-by}
-use Rattle.instructions.proofs.Fetching.{LegThere, leg-there}
+use Rattle.book.proofs.Book.withdraw.Statement.{statement}
 use Rattle.book.proofs.Book.withdraw.Tie as tie
 
-abbrev done-with : Book → Legs → Done
-done-with b legs = record { answer = 0; book = withLegs legs b }
-
--- what a Withdraw answers, by the answer of the fetch
-no-member : (f : FetchedLeg) (member : ℕ) → noMember member ≡ true → answer (withdrawRefusals f member) ≡ 1
+-- an absent leg is refused
+absent-some : (member : ℕ) → answer (withdrawRefusals Absent member) ≡ 0 → ⊥
 unfolding withdrawRefusals
-no-member Absent member e = stop 1 _ e
-no-member (Found l) member e = stop 1 _ e
+absent-some member e = false≢true (sym (passed _ _ _ (passed 1 _ _ e refl .1) refl .0))
 
-by-fetch : (f g : FetchedLeg) (member : ℕ) → f ≡ g → answer (withdrawRefusals f member) ≡ answer (withdrawRefusals g member)
-by-fetch f g member q = ap (λ (x : FetchedLeg). answer (withdrawRefusals x member)) q
+-- a leg whose Withdraw is not refused is there
+there : (legs : Legs) (n member : ℕ) → legs .count ≤ mostLegs → answer (withdrawRefusals (fetchedLeg legs n) member) ≡ 0 → n < mostLegs
+there legs n member few =
+    fetched-leg-case (λ f. answer (withdrawRefusals f member) ≡ 0 → n < mostLegs) legs n (λ e. absurd (absent-some member e)) (λ h e. omega arith)
 
+-- what a Withdraw returns, by its answer number
 refused-as : (b : Book) (n member : ℕ) (f : FetchedLeg) (k : ℕ) → answer (withdrawRefusals f member) ≡ k → (k ≡ 0 → ⊥) → doneRefused b k ≡ withdrawBy b n member f
 unfolding withdrawBy
 refused-as b n member Absent k e z = ap (doneRefused b) (sym e)
 refused-as b n member (Found l) k e z = refused-with k (withdrawRefusals (Found l) member) (withdrawDone b n) (doneRefused b) e z
 
-done-as : (b : Book) (n member : ℕ) (f : FetchedLeg) (l : Leg) → f ≡ Found l → answer (withdrawRefusals (Found l) member) ≡ 0 → withdrawDone b n ≡ withdrawBy b n member f
+done-as : (b : Book) (n member : ℕ) (f : FetchedLeg) → answer (withdrawRefusals f member) ≡ 0 → withdrawDone b n ≡ withdrawBy b n member f
 unfolding withdrawBy
-done-as b n member f l q e = rw q (done-by (withdrawRefusals (Found l) member) (withdrawDone b n) (doneRefused b) e)
+done-as b n member Absent e = absurd (absent-some member e)
+done-as b n member (Found l) e = done-by (withdrawRefusals (Found l) member) (withdrawDone b n) (doneRefused b) e
 
-there : (c : tie.After-found) → LegThere (c .before .before .before .before .before .args .self .legs) (c .before .before .before .before .before .args .leg) (c .found .given .0 .0)
-there c = leg-there _ _ _ (sym (c .before .before .fetch .ensures) ∙ c .found .given .1)
-
-returns : tie.Need-returns
-unfolding withdraw
-returns c = (refused-as _ _ _ _ 1 (no-member _ _ (lt-ltb _ _ (c .if1 .taken))) (λ z. absurd (omega arith)), c .before .pre)
+-- the answer number, by the leg that the book fetches
+number : (c : tie.After-withdraw-answer) →
+    let a = c .before .before .before .args in
+    answer (withdrawRefusals (fetchedLeg (a .self .legs) (a .leg)) (a .member)) ≡ c .withdraw-answer .result
+number c =
+    let a = c .before .before .before .args in
+    sym (c .withdraw-answer .ensures ∙ ap (λ (f : FetchedLeg). answer (withdrawRefusals f (a .member))) (c .before .fetch .ensures))
 
 fetch-requires : tie.Need-fetch-requires
 fetch-requires c κs = search needs
 
-enum-known-found : tie.Need-enum-known-found
-enum-known-found c = search needs
-
-enum-told : tie.Need-enum-told
-enum-told c = search needs
-
-returns-2 : tie.Need-returns-2
-unfolding withdraw withdrawRefusals
-returns-2 c = (refused-as _ _ _ _ 13 (by-fetch _ _ _ (sym (c .before .before .fetch .ensures) ∙ c .enum-told .given .1) ∙ pass 1 _ (le-ltb _ _ (c .before .before .before .before .if1 .left)) ∙ stop 13 _ refl) (λ z. absurd (omega arith)), c .before .before .before .before .before .pre)
-
-is-waiting-requires : tie.Need-is-waiting-requires
-is-waiting-requires c κs = search needs
-
-returns-3 : tie.Need-returns-3
-unfolding withdraw withdrawRefusals
-returns-3 c = (refused-as _ _ _ _ 13 (by-fetch _ _ _ (sym (c .before .before .before .before .before .fetch .ensures) ∙ c .before .before .before .found .given .1) ∙ pass 1 _ (le-ltb _ _ (c .before .before .before .before .before .before .before .if1 .left)) ∙ stop 13 _ (rw (← c .before .is-waiting .ensures, c .if2 .taken))) (λ z. absurd (omega arith)), c .before .before .before .before .before .before .before .before .pre)
-
-returns-4 : tie.Need-returns-4
-unfolding withdraw withdrawRefusals
-returns-4 c = (refused-as _ _ _ _ 14 (by-fetch _ _ _ (sym (c .before .before .before .before .before .before .before .fetch .ensures) ∙ c .before .before .before .before .before .found .given .1) ∙ pass 1 _ (le-ltb _ _ (c .before .before .before .before .before .before .before .before .before .if1 .left)) ∙ pass 13 _ (rw (← c .before .before .before .is-waiting .ensures, c .before .before .if2 .left)) ∙ stop 14 _ (rw (ne-eqb _ _ (c .if3 .taken)))) (λ z. absurd (omega arith)), c .before .before .before .before .before .before .before .before .before .before .pre)
+withdraw-answer-requires : tie.Need-withdraw-answer-requires
+withdraw-answer-requires c κs = search needs
 
 set-state-requires : tie.Need-set-state-requires
-set-state-requires c κs = let t = there (c .before .before .before .before .before) in omega (arith, ltb-true (c .before .before .before .before .before .before .before .before .before .before .args .leg) (c .before .before .before .before .before .before .before .before .before .before .args .self .legs .count) (t .below), c .before .before .before .before .before .before .before .before .before .before .pre .legs .few)
+set-state-requires c κs = let s = c .before .before .before .before in there (s .args .self .legs) (s .args .leg) (s .args .member) (s .pre .legs .few) (number (c .before) ∙ c .if1 .taken)
 
-returns-5 : tie.Need-returns-5
-unfolding withdraw withdrawRefusals
-returns-5 c = let a = c .before .before .before .before .before .before .before .before .before .before .before .args in
+returns : tie.Need-returns
+unfolding withdraw
+returns c =
+    let s = c .before .before .before .before in
+    let a = s .args in
+    let e = number (c .before) in
+    let made : ℕ → Legs → Done = λ (k : ℕ) (legs : Legs). record { answer = k; book = withLegs legs (a .self) } in
     answered (λ (r : Done). r .book)
-    (ap (done-with (a .self)) (c .set-state .ensures)
-    ∙ done-as (a .self) (a .leg) (a .member) _ _ (sym (c .before .before .before .before .before .before .before .before .fetch .ensures) ∙ c .before .before .before .before .before .before .found .given .1) (pass 1 _ (le-ltb _ _ (c .before .before .before .before .before .before .before .before .before .before .if1 .left)) ∙ pass 13 _ (rw (← c .before .before .before .before .is-waiting .ensures, c .before .before .before .if2 .left)) ∙ pass 14 _ (rw (eq-eqb _ _ (c .before .if3 .left))) ∙ all-passed))
-    (withdraw-valid _ (c .before .before .before .before .before .before .before .before .before .before .before .pre) (a .leg) (a .member))
+    (⊎-elim
+    (λ w. ap₂ made (w .0 .taken) (w .2 ∙ w .1 .ensures) ∙ done-as (a .self) (a .leg) (a .member) _ (e ∙ w .0 .taken))
+    (λ w. ap (made _) (w .1) ∙ refused-as (a .self) (a .leg) (a .member) _ _ e (w .0 .left))
+    (c .if1 .came))
+    (withdraw-valid _ (s .pre) (a .leg) (a .member))
 
 pub withdraw-spec : {M : Type 1} → statement M
 withdraw-spec =
-    tie.close
-    (tie.spec
-    returns
-    fetch-requires
-    enum-known-found
-    enum-told
-    returns-2
-    is-waiting-requires
-    returns-3
-    returns-4
-    set-state-requires
-    returns-5)
+    tie.close (tie.spec fetch-requires withdraw-answer-requires set-state-requires returns)

@@ -1,8 +1,12 @@
 -- `is_late` meets its contract.
+use borrow.Author.Needs.{needs}
 use borrow.Author.Tests.{lt-ltb, le-ltb, eq-eqb, ne-eqb}
 use Rattle.book.specs.Showing.{isLate}
 use Rattle.book.proofs.showing.is_late.Statement.{statement}
 use Rattle.book.proofs.showing.is_late.Tie as tie
+
+cast-if1 : tie.Need-cast-if1
+cast-if1 c = search needs
 
 returns : tie.Need-returns
 unfolding isLate
@@ -17,4 +21,4 @@ unfolding isLate
 returns-3 c = rw (ne-eqb _ _ (c .if1 .left))
 
 pub is-late-spec : {M : Type 1} → statement M
-is-late-spec = tie.close (tie.spec returns returns-2 returns-3)
+is-late-spec = tie.close (tie.spec cast-if1 returns returns-2 returns-3)

@@ -14,23 +14,25 @@ use Rattle.instructions.proofs.Matching.{search-more, search-end}
 use Rattle.instructions.proofs.Legs.lowest_fit.Tie as tie
 
 abbrev Inv-loop : tie.InvT-loop
-Inv-loop new self count i₀ i = (i ≤ count) × (firstFit new i (drop i (entered self)) ≡ lowestFit self new)
+Inv-loop new count rows i₀ i =
+    (i ≤ count)
+    × (firstFit new i (drop i (entered (record { rows = rows; count = count }))) ≡ lowestFit (record { rows = rows; count = count }) new)
 
 abbrev μ-loop : tie.MeasureT-loop
-μ-loop new self count i₀ i = count - i
+μ-loop new count rows i₀ i = count - i
 
-sized : (c : tie.At-loop Inv-loop μ-loop) → length (c .before .args .t1 .rows) ≡ mostLegs
+sized : (c : tie.At-loop Inv-loop μ-loop) → length (c .before .before .args .self .rows) ≡ mostLegs
 sized c = search (length-mapped, needs)
 
 -- the search at the start of a turn
 turn : (c : tie.In-loop Inv-loop μ-loop) →
-    let s = c .before .before .args .t1 in
-    let new = c .before .before .args .new in
+    let s = c .before .before .before .args .self in
+    let new = c .before .before .before .args .new in
     let i = c .before .loop .i in
     pick (fits (legAt s i) new) (With i) (firstFit new (i + 1) (drop (i + 1) (entered s))) ≡ lowestFit s new
 turn c =
     let o = c .before in
-    sym (search-more _ _ (sized o) (o .before .pre) _ (c .loop-test .taken)) ∙ o .loop .inv .1
+    sym (search-more _ _ (sized o) (o .before .before .pre) _ (c .loop-test .taken)) ∙ o .loop .inv .1
 
 loop-holds : tie.Need-loop-holds Inv-loop μ-loop
 unfolding lowestFit
@@ -39,8 +41,8 @@ loop-holds c = (omega arith, refl)
 mul-leg : tie.Need-mul-leg Inv-loop μ-loop
 mul-leg c = search needs
 
-element-copy-out-leg : tie.Need-element-copy-out-leg Inv-loop μ-loop
-element-copy-out-leg c = search needs
+array-copy-out-leg : tie.Need-array-copy-out-leg Inv-loop μ-loop
+array-copy-out-leg c = search needs
 
 fits-new-requires : tie.Need-fits-new-requires Inv-loop μ-loop
 fits-new-requires c κs = search needs
@@ -61,7 +63,7 @@ loop-again c =
 returns-2 : tie.Need-returns-2 Inv-loop μ-loop
 returns-2 c =
     let o = c .before in
-    sym (search-end _ _ (sized o) (o .before .pre) _ (c .loop-test .left)) ∙ o .loop .inv .1
+    sym (search-end _ _ (sized o) (o .before .before .pre) _ (c .loop-test .left)) ∙ o .loop .inv .1
 
 pub lowest-fit-spec : {M : Type 1} → statement M
 lowest-fit-spec =
@@ -71,7 +73,7 @@ lowest-fit-spec =
     μ-loop
     loop-holds
     mul-leg
-    element-copy-out-leg
+    array-copy-out-leg
     fits-new-requires
     returns
     add-i

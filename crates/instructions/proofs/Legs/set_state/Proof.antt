@@ -9,28 +9,28 @@ use Rattle.instructions.proofs.Legs.set_state.Tie as tie
 mul-leg : tie.Need-mul-leg
 mul-leg c = search needs
 
-element-copy-out-leg : tie.Need-element-copy-out-leg
-element-copy-out-leg c = search needs
+array-copy-out-leg : tie.Need-array-copy-out-leg
+array-copy-out-leg c = search needs
 
 in-state-requires : tie.Need-in-state-requires
 in-state-requires c κs = search needs
 
-mul-next : tie.Need-mul-next
-mul-next c = search needs
+mul-rows : tie.Need-mul-rows
+mul-rows c = search needs
 
-element-set-from-next : tie.Need-element-set-from-next
-element-set-from-next c = search needs
+array-set-from-rows : tie.Need-array-set-from-rows
+array-set-from-rows c = search needs
 
 returns : tie.Need-returns
-returns c = let a = c .before .before .args in ap (λ (l : Leg). record { rows = set (a .t1 .rows) (a .number) l; count = a .t1 .count }) (c .in-state .ensures)
+returns c = let a = c .before .before .before .args in ap (λ (l : Leg). record { rows = set (a .self .rows) (a .number) l; count = a .self .count }) (c .in-state .ensures)
 
 pub set-state-spec : {M : Type 1} → statement M
 set-state-spec =
     tie.close
     (tie.spec
     mul-leg
-    element-copy-out-leg
+    array-copy-out-leg
     in-state-requires
-    mul-next
-    element-set-from-next
+    mul-rows
+    array-set-from-rows
     returns)

@@ -8,8 +8,8 @@ use Rattle.ledger.proofs.Ledger.fetch.Tie as tie
 mul-t8 : tie.Need-mul-t8
 mul-t8 c = search needs
 
-element-copy-out-t11 : tie.Need-element-copy-out-t11
-element-copy-out-t11 c = search needs
+array-copy-out-t11 : tie.Need-array-copy-out-t11
+array-copy-out-t11 c = search needs
 
 returns : tie.Need-returns
 unfolding fetched
@@ -20,4 +20,4 @@ unfolding fetched
 returns-2 c = rw (le-ltb _ _ (c .if1 .left))
 
 pub fetch-spec : {M : Type 1} → statement M
-fetch-spec = tie.close (tie.spec mul-t8 element-copy-out-t11 returns returns-2)
+fetch-spec = tie.close (tie.spec mul-t8 array-copy-out-t11 returns returns-2)

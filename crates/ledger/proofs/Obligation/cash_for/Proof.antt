@@ -15,15 +15,20 @@ within c = omega (arith, c .settled-so-far .ensures, settled-most (c .before .ar
 settled-so-far-requires : tie.Need-settled-so-far-requires
 settled-so-far-requires c κs = search needs
 
+cast-cash-for : tie.Need-cast-cash-for
+cast-cash-for c = search needs
+
 add-cash-for : tie.Need-add-cash-for
-add-cash-for c = record { fits = omega (arith, within c, c .before .pre .sound .deal .quantity-most) }
+add-cash-for c = record { fits = omega (arith, within (c .before), c .before .before .pre .sound .deal .quantity-most) }
 
 cash-for-requires : tie.Need-cash-for-requires
-cash-for-requires c κs = (c .before .pre .sound .deal .amount-most, c .before .pre .sound .deal .quantity-some, c .before .pre .sound .deal .quantity-most, omega arith, within c)
+cash-for-requires c κs =
+    let sound = c .before .before .pre .sound .deal in
+    (sound .amount-most, sound .quantity-some, sound .quantity-most, omega arith, within (c .before))
 
 returns : tie.Need-returns
 unfolding cashOf
-returns c = let a = c .before .before .args in c .cash-for .ensures ∙ ap (λ (s : ℕ). cash (a .self .deal .amount) (a .self .deal .quantity) s (s + a .quantity)) (c .before .settled-so-far .ensures)
+returns c = let a = c .before .before .before .args in c .cash-for .ensures ∙ ap (λ (s : ℕ). cash (a .self .deal .amount) (a .self .deal .quantity) s (s + a .quantity)) (c .before .before .settled-so-far .ensures)
 
 pub cash-for-spec : {M : Type 1} → statement M
-cash-for-spec = tie.close (tie.spec settled-so-far-requires add-cash-for cash-for-requires returns)
+cash-for-spec = tie.close (tie.spec settled-so-far-requires cast-cash-for add-cash-for cash-for-requires returns)

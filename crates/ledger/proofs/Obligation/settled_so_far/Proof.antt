@@ -1,19 +1,26 @@
 -- `settled_so_far` meets its contract.
 use native.Mathlib.Omega.{arith}
 use mathlib.Core.Path.{refl}
+use borrow.Author.Needs.{needs}
 use Rattle.ledger.specs.Obligations.{settled}
 use Rattle.ledger.specs.Parts.{allParts}
 use Rattle.basics.specs.Lists.{total}
 use Rattle.ledger.proofs.Obligation.settled_so_far.Statement.{statement}
 use Rattle.ledger.proofs.Obligation.settled_so_far.Tie as tie
 
+cast-result : tie.Need-cast-result
+cast-result c = search needs
+
+cast-result-2 : tie.Need-cast-result-2
+cast-result-2 c = search needs
+
 add-result : tie.Need-add-result
 unfolding settled allParts total
-add-result c = record { fits = omega (arith, c .before .pre .whole, c .before .pre .deal .quantity-most) }
+add-result c = record { fits = omega (arith, c .before .before .pre .whole, c .before .before .pre .deal .quantity-most) }
 
 returns : tie.Need-returns
 unfolding settled
 returns c = refl
 
 pub settled-so-far-spec : {M : Type 1} → statement M
-settled-so-far-spec = tie.close (tie.spec add-result returns)
+settled-so-far-spec = tie.close (tie.spec cast-result cast-result-2 add-result returns)

@@ -6,6 +6,9 @@ use Rattle.ledger.proofs.Moving.{part-most}
 use Rattle.ledger.proofs.Parts.move_to.Statement.{statement}
 use Rattle.ledger.proofs.Parts.move_to.Tie as tie
 
+cast-units : tie.Need-cast-units
+cast-units c = record { fits = omega (arith, part-most Delivered (c .args .self)) }
+
 sub-next : tie.Need-sub-next
 sub-next c = search needs
 
@@ -49,6 +52,7 @@ pub move-to-spec : {M : Type 1} → statement M
 move-to-spec =
     tie.close
     (tie.spec
+    cast-units
     sub-next
     enum-told
     add-next

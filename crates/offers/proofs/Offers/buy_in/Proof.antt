@@ -39,6 +39,9 @@ array-set-from-bought c = search needs
 add-count : tie.Need-add-count Inv-loop μ-loop
 add-count c = search needs
 
+cast-rest : tie.Need-cast-rest Inv-loop μ-loop
+cast-rest c = search needs
+
 sub-rest : tie.Need-sub-rest Inv-loop μ-loop
 sub-rest c =
     let args = c .before .before .before .before .before .before .args in
@@ -83,6 +86,7 @@ buy-in-spec =
     mul-bought
     array-set-from-bought
     add-count
+    cast-rest
     sub-rest
     add-k
     loop-less

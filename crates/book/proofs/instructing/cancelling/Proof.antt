@@ -1,0 +1,80 @@
+-- `cancelling` meets its contract.
+use native.Mathlib.Omega.{arith}
+use mathlib.Core.Path.{refl, sym, _∙_}
+use borrow.Author.Needs.{needs}
+use borrow.Author.Tests.{lt-ltb, le-ltb}
+use Rattle.ledger.specs.Ledger.{refusedChange}
+use Rattle.refusals.proofs.Refusals.{pass, stop, all-passed}
+use Rattle.refusals.proofs.Named.{input-refused, absent-refused, found-refused, found-done}
+use Rattle.book.specs.Instructing.{cancelChange}
+use Rattle.book.proofs.instructing.cancelling.Statement.{statement}
+use Rattle.book.proofs.instructing.cancelling.Tie as tie
+
+refused-requires : tie.Need-refused-requires
+refused-requires c κs = search needs
+
+returns : tie.Need-returns
+unfolding cancelChange
+returns c =
+    c .refused .ensures
+    ∙ input-refused _ _ _ refusedChange _ 1 (stop 1 _ (lt-ltb _ _ (c .before .if1 .taken))) (λ z. absurd (omega arith))
+
+enum-known-fetched : tie.Need-enum-known-fetched
+enum-known-fetched c = search needs
+
+enum-told : tie.Need-enum-told
+enum-told c = search needs
+
+refused-requires-2 : tie.Need-refused-requires-2
+refused-requires-2 c κs = search needs
+
+returns-2 : tie.Need-returns-2
+unfolding cancelChange
+returns-2 c =
+    c .refused2 .ensures
+    ∙ absent-refused _ _ _ refusedChange refl (pass 1 _ (le-ltb _ _ (c .before .before .before .if1 .left)) ∙ all-passed) _ (c .before .enum-told .given .1)
+
+cancel-answer-requires : tie.Need-cancel-answer-requires
+cancel-answer-requires c κs = search needs
+
+refused-requires-3 : tie.Need-refused-requires-3
+refused-requires-3 c κs = search needs
+
+returns-3 : tie.Need-returns-3
+unfolding cancelChange
+returns-3 c =
+    let found = c .before .before .before .before in
+    c .refused3 .ensures
+    ∙ found-refused _ _ _ refusedChange refl (pass 1 _ (le-ltb _ _ (found .before .before .if1 .left)) ∙ all-passed) _ _ _
+    (found .fetched .given .1) (sym (c .before .before .cancel-answer .ensures)) (c .before .if2 .taken)
+
+moved-by-wish-requires : tie.Need-moved-by-wish-requires
+moved-by-wish-requires c κs = search needs
+
+wish-requires : tie.Need-wish-requires
+wish-requires c κs = let found = c .before .before .before .before in found .before .before .before .pre _ (found .fetched .given .1)
+
+returns-4 : tie.Need-returns-4
+unfolding cancelChange
+returns-4 c =
+    let found = c .before .before .before .before .before in
+    (λ i. record { answer = 0; result = c .before .moved-by-wish .ensures i; obligation = c .wish .ensures i })
+    ∙ found-done _ _ _ refusedChange refl (pass 1 _ (le-ltb _ _ (found .before .before .if1 .left)) ∙ all-passed) _ _
+    (found .fetched .given .1) (sym (c .before .before .before .cancel-answer .ensures) ∙ c .before .before .if2 .left)
+
+pub cancelling-spec : {M : Type 1} → statement M
+cancelling-spec =
+    tie.close
+    (tie.spec
+    refused-requires
+    returns
+    enum-known-fetched
+    enum-told
+    refused-requires-2
+    returns-2
+    cancel-answer-requires
+    refused-requires-3
+    returns-3
+    moved-by-wish-requires
+    wish-requires
+    returns-4)

@@ -1,0 +1,96 @@
+-- `delivering` meets its contract.
+use native.Mathlib.Omega.{arith}
+use mathlib.Core.Path.{refl, sym, _∙_}
+use borrow.Author.Needs.{needs}
+use borrow.Author.Tests.{ltb-false}
+use Rattle.ledger.specs.Obligations.{Takes}
+use Rattle.ledger.specs.Ledger.{refusedChange}
+use Rattle.refusals.specs.Calls.{deliverRefusalsOf}
+use Rattle.refusals.proofs.Refusals.{pass, stop, passed, all-passed}
+use Rattle.refusals.proofs.Named.{input-refused, absent-refused, found-refused, found-done}
+use Rattle.book.specs.Instructing.{deliverChange}
+use Rattle.book.proofs.instructing.delivering.Statement.{statement}
+use Rattle.book.proofs.instructing.delivering.Tie as tie
+
+-- an obligation of which no more is delivered than is outstanding
+takes : (c : tie.Else2) → Takes (c .before .before .before .fetched .given .0 .0) (c .before .before .before .before .before .before .before .args .quantity)
+unfolding deliverRefusalsOf
+takes c = record {
+  sound = c .before .before .before .before .before .before .before .pre _ (c .before .before .before .fetched .given .1);
+  enough = ltb-false _ _ (passed 15 _ _ (sym (c .before .deliver-answer .ensures) ∙ c .if2 .left) refl .0);
+}
+
+is-outside-requires : tie.Need-is-outside-requires
+is-outside-requires c κs = search needs
+
+refused-requires : tie.Need-refused-requires
+refused-requires c κs = search needs
+
+returns : tie.Need-returns
+unfolding deliverChange
+returns c =
+    c .refused .ensures
+    ∙ input-refused _ _ _ refusedChange _ 2 (stop 2 _ (sym (c .before .before .is-outside .ensures) ∙ c .before .if1 .taken)) (λ z. absurd (omega arith))
+
+enum-known-fetched : tie.Need-enum-known-fetched
+enum-known-fetched c = search needs
+
+enum-told : tie.Need-enum-told
+enum-told c = search needs
+
+refused-requires-2 : tie.Need-refused-requires-2
+refused-requires-2 c κs = search needs
+
+returns-2 : tie.Need-returns-2
+unfolding deliverChange
+returns-2 c =
+    c .refused2 .ensures
+    ∙ absent-refused _ _ _ refusedChange refl (pass 2 _ (sym (c .before .before .before .before .is-outside .ensures) ∙ c .before .before .before .if1 .left) ∙ all-passed) _ (c .before .enum-told .given .1)
+
+deliver-answer-requires : tie.Need-deliver-answer-requires
+deliver-answer-requires c κs = search needs
+
+refused-requires-3 : tie.Need-refused-requires-3
+refused-requires-3 c κs = search needs
+
+returns-3 : tie.Need-returns-3
+unfolding deliverChange
+returns-3 c =
+    let found = c .before .before .before .before in
+    let asked = found .before .before in
+    c .refused3 .ensures
+    ∙ found-refused _ _ _ refusedChange refl (pass 2 _ (sym (asked .before .is-outside .ensures) ∙ asked .if1 .left) ∙ all-passed) _ _ _
+    (found .fetched .given .1) (sym (c .before .before .deliver-answer .ensures)) (c .before .if2 .taken)
+
+cash-for-requires : tie.Need-cash-for-requires
+cash-for-requires c κs = takes c
+
+move-to-requires : tie.Need-move-to-requires
+move-to-requires c κs = takes (c .before)
+
+returns-4 : tie.Need-returns-4
+unfolding deliverChange
+returns-4 c =
+    let found = c .before .before .before .before .before in
+    let asked = found .before .before in
+    (λ i. record { answer = 0; result = c .before .cash-for .ensures i; obligation = c .move-to .ensures i })
+    ∙ found-done _ _ _ refusedChange refl (pass 2 _ (sym (asked .before .is-outside .ensures) ∙ asked .if1 .left) ∙ all-passed) _ _
+    (found .fetched .given .1) (sym (c .before .before .before .deliver-answer .ensures) ∙ c .before .before .if2 .left)
+
+pub delivering-spec : {M : Type 1} → statement M
+delivering-spec =
+    tie.close
+    (tie.spec
+    is-outside-requires
+    refused-requires
+    returns
+    enum-known-fetched
+    enum-told
+    refused-requires-2
+    returns-2
+    deliver-answer-requires
+    refused-requires-3
+    returns-3
+    cash-for-requires
+    move-to-requires
+    returns-4)
