@@ -21,9 +21,9 @@ ghost use mathlib.Core.Path.{_≡_};
 ghost use Prim.Native.Nat.{_<_};
 ghost use Rattle.instructions.specs.Legs.{mostLegs};
 ghost use Rattle.ledger.specs.Ledger.{mostObligations, SoundFetched};
+ghost use Rattle.refusals.specs.Refusals.{answer};
 ghost use Rattle.book.specs.Book.{Valid};
 ghost use Rattle.book.specs.Instructing.{obligationOf, enteredWith, enter, withdraw};
-ghost use Rattle.refusals.specs.Refusals.{answer};
 ghost use Rattle.book.specs.Instructing.{withdrawRefusals, cancelChange, cancel, deliverChange, deliver};
 
 // The obligation of a new leg and the one that it matches.

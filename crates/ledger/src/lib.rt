@@ -1,20 +1,18 @@
-// The ledger: obligations with their parts, the day's offers and the members' accounts, and what a delivery, a wish
-// to cancel and an offer do to them.
+// The ledger: obligations with their parts, the day's offers and the members' accounts, and what a delivery and a wish to
+// cancel do to an obligation.
 use calendar::ClearingDays;
 use calendar::ClosedDays;
 use calendar::Day;
 use netting::MEMBER_COUNT;
-use offers::Offer;
 use offers::Offers;
 ghost use mathlib.Core.Path.{_≡_};
 ghost use Prim.Native.Nat.{_+_, _≤_, _<_};
 ghost use Rattle.amounts.specs.Amounts.{mostQuantity, mostClosePrice};
-ghost use Rattle.offers.specs.Held.{mostOffers};
 ghost use Rattle.ledger.specs.Parts.{moved, allParts};
 ghost use Rattle.ledger.specs.Obligations.{newObligation, settled, cashOf, moving, Sound, Takes};
 ghost use Rattle.ledger.specs.Obligations.{inBuyIn, isDue, withGracePrice};
 ghost use Rattle.ledger.specs.Obligations.{isParty, hasWished, withWish, bothWish, wishing, movedByWish};
-ghost use Rattle.ledger.specs.Ledger.{mostObligations, newLedger, fetched, refusedChange, changed, withNew, withOfferFor, clearedLedger};
+ghost use Rattle.ledger.specs.Ledger.{mostObligations, newLedger, fetched, refusedChange, changed, withNew, clearedLedger};
 
 // The most obligations of a book; `mostObligations` in specs/.
 pub const MOST_OBLIGATIONS: usize = 64;
@@ -363,17 +361,6 @@ impl Ledger {
         rows[i] = next;
         self.obligations = rows;
         self.count = i + 1;
-        self
-    }
-
-    // Adds an offer to those of today.
-    pub fn offer(mut self, next: Offer) -> Ledger
-        requires { ⌜ self .offers .count < mostOffers ⌝ }
-        ensures { λ r. ⌜ r ≡ withOfferFor next self ⌝ }
-    {
-        let held = self.offers;
-        let all = held.insert(next);
-        self.offers = all;
         self
     }
 
