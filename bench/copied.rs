@@ -1,5 +1,6 @@
-// Counts the bytes that a program copies in memory. It is built as a library that is loaded ahead of the C library, and
-// its memcpy and memmove take the place of that library's. When the program ends, it writes the count to standard error.
+// Counts the bytes that a program hands to memcpy and memmove, on x86-64. It is built as a library that is loaded ahead
+// of the C library, and its two functions take the place of that library's. When the program ends, it writes the count
+// to standard error.
 use std::arch::asm;
 use std::sync::atomic::{AtomicU64, Ordering};
 
@@ -9,28 +10,35 @@ extern "C" {
     fn write(file: i32, bytes: *const u8, count: usize) -> isize;
 }
 
-fn count(bytes: usize) {
+/// Counts a copy and makes it, from the first byte to the last. One instruction does it, since a loop here could be
+/// compiled to a call of memcpy.
+unsafe fn forwards(to: *mut u8, from: *const u8, bytes: usize) -> *mut u8 {
     COPIED.fetch_add(bytes as u64, Ordering::Relaxed);
-}
-
-/// The copy is made by one instruction, since a loop here could be compiled to a call of memcpy.
-#[no_mangle]
-pub unsafe extern "C" fn memcpy(to: *mut u8, from: *const u8, bytes: usize) -> *mut u8 {
-    count(bytes);
     asm!("rep movsb", inout("rdi") to => _, inout("rsi") from => _, inout("rcx") bytes => _);
     to
 }
 
-/// Where the two places overlap and the second is behind the first, the bytes are copied from the last to the first.
-#[no_mangle]
-pub unsafe extern "C" fn memmove(to: *mut u8, from: *const u8, bytes: usize) -> *mut u8 {
-    if (to as usize).wrapping_sub(from as usize) >= bytes {
-        return memcpy(to, from, bytes);
-    }
-    count(bytes);
-    let (last_to, last_from) = (to.wrapping_add(bytes.wrapping_sub(1)), from.wrapping_add(bytes.wrapping_sub(1)));
+/// Counts a copy and makes it, from the last byte to the first.
+unsafe fn backwards(to: *mut u8, from: *const u8, bytes: usize) -> *mut u8 {
+    COPIED.fetch_add(bytes as u64, Ordering::Relaxed);
+    let (last_to, last_from) = (to.wrapping_add(bytes).wrapping_sub(1), from.wrapping_add(bytes).wrapping_sub(1));
     asm!("std", "rep movsb", "cld", inout("rdi") last_to => _, inout("rsi") last_from => _, inout("rcx") bytes => _);
     to
+}
+
+#[no_mangle]
+pub unsafe extern "C" fn memcpy(to: *mut u8, from: *const u8, bytes: usize) -> *mut u8 {
+    forwards(to, from, bytes)
+}
+
+/// Where `to` lies within the bytes that are copied, a copy from the first byte on would overwrite some of them.
+#[no_mangle]
+pub unsafe extern "C" fn memmove(to: *mut u8, from: *const u8, bytes: usize) -> *mut u8 {
+    if (to as usize).wrapping_sub(from as usize) < bytes {
+        backwards(to, from, bytes)
+    } else {
+        forwards(to, from, bytes)
+    }
 }
 
 extern "C" fn tell() {

@@ -12,7 +12,7 @@ use Rattle.basics.proofs.Places.{set-case}
 use Rattle.calendar.specs.declared.Day.{Day}
 use Rattle.calendar.specs.Days.{clearing, ageAt}
 use Rattle.calendar.proofs.Ages.{age-early}
-use Rattle.amounts.specs.Amounts.{mostQuantity, mostAmount, mostOfferPrice}
+use Rattle.amounts.specs.Amounts.{mostQuantity, mostAmount}
 use Rattle.instructions.specs.declared.LegState.the-variants.{Withdrawn, Matched}
 use Rattle.instructions.specs.declared.Leg.{Leg}
 use Rattle.instructions.specs.declared.Legs.{Legs}
@@ -30,10 +30,10 @@ use Rattle.ledger.specs.Obligations.{noObligation, wishing, SoundDeal, Sound, d
 use Rattle.ledger.specs.Ledger.{obligationAt, withObligation, withNew, ValidLedger}
 use Rattle.ledger.proofs.Keeping.{new-sound, moving-sound, wishing-sound, Later, moving-later, wishing-later}
 use Rattle.book.specs.declared.Book.{Book}
-use Rattle.refusals.specs.Refusals.{answer, outside}
+use Rattle.refusals.specs.Refusals.{answer}
 use Rattle.book.specs.Book.{withLegs, withLedger, closedOf, todayOf, ageOf, Timely, Valid}
 use Rattle.book.specs.Instructing.{newLeg, obligationOf, enteredAlone, enteredWith, enteredBy, enterRefused, enter, withdraw, cancel, deliver}
-use Rattle.refusals.specs.Calls.{enterRefusals, deliverRefusalsOf, offerRefusalsIn}
+use Rattle.refusals.specs.Calls.{enterRefusals, deliverRefusalsOf}
 use Rattle.book.specs.Buying.{offer}
 use Rattle.refusals.proofs.Refusals.{passed, outcome-case}
 use Rattle.refusals.proofs.Offering.{within, offered, offers-few}

@@ -10,6 +10,7 @@ use Rattle.calendar.specs.Closed.{lastDay, listed}
 use Rattle.calendar.specs.Days.{clearing, ageAt}
 use Rattle.instructions.specs.declared.Legs.{Legs}
 use Rattle.instructions.specs.Legs.{waiting, ValidLegs}
+use Rattle.ledger.specs.declared.Setup.{Setup}
 use Rattle.ledger.specs.declared.Obligation.{Obligation}
 use Rattle.ledger.specs.declared.Ledger.{Ledger}
 use Rattle.ledger.specs.Setup.{ValidSetup}
@@ -37,9 +38,13 @@ closedOf b = listed (b .setup .«closed_days»)
 abbrev pub todayOf : Book → Day
 todayOf b = b .day .today
 
--- B1, Buy-in: the age of an obligation
+-- B1, Buy-in: the age of an obligation on a day, with the closed days of a setup
+abbrev pub ageBy : Setup → Day → Obligation → ℕ
+ageBy setup today o = ageAt (listed (setup .«closed_days»)) (o .deal .day) today .0
+
+-- B1, Buy-in: the age of an obligation of the book
 unfoldable pub ageOf : Book → Obligation → ℕ
-ageOf b o = ageAt (closedOf b) (o .deal .day) (todayOf b) .0
+ageOf b o = ageBy (b .setup) (todayOf b) o
 
 -- the most that one Close moves on an account: 64 penalties of 1,500,000
 abbrev pub mostPerDay : ℕ

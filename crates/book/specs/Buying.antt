@@ -2,8 +2,6 @@
 use Prim.Native.Nat.{ℕ}
 use mathlib.Core.List.{List}
 use Rattle.calendar.specs.declared.Day.{Day}
-use Rattle.calendar.specs.Closed.{listed}
-use Rattle.calendar.specs.Days.{ageAt}
 use Rattle.ledger.specs.declared.Setup.{Setup}
 use Rattle.ledger.specs.declared.Obligation.{Obligation}
 use Rattle.ledger.specs.declared.Fetched.{Fetched}
@@ -12,7 +10,7 @@ use Rattle.book.specs.declared.Book.{Book}
 use Rattle.book.specs.declared.Done.{Done}
 use Rattle.refusals.specs.Calls.{fetchRefusals, fetchOutcome, offerRefusalsIn, offerRefusalsOf}
 use Rattle.refusals.specs.Refusals.{Refusal, answer}
-use Rattle.book.specs.Book.{withLedger, todayOf, ageOf}
+use Rattle.book.specs.Book.{withLedger, todayOf, ageBy, ageOf}
 use Rattle.book.specs.Instructing.{doneRefused}
 
 -- A11, Refusals, of Offer on the obligation that was found
@@ -24,7 +22,7 @@ offerRefusalsFor b price o = offerRefusalsOf (b .setup .terms) (todayOf b) (ageO
 unfoldable pub offerNumber : Setup → Day → ℕ → ℕ → ℕ → ℕ → Fetched → ℕ
 offerNumber setup today offers supplier q price f =
     answer (fetchRefusals (offerRefusalsIn supplier q price) f
-    (λ o. offerRefusalsOf (setup .terms) today (ageAt (listed (setup .«closed_days»)) (o .deal .day) today .0) offers o price))
+    (λ o. offerRefusalsOf (setup .terms) today (ageBy setup today o) offers o price))
 
 -- A11, Refusals, of Offer
 unfoldable pub offerRefusals : Book → ℕ → ℕ → ℕ → ℕ → List Refusal

@@ -27,7 +27,7 @@ use Rattle.refusals.specs.Refusals.{Refusal, refuse, answer, outcome, noMember}
 use Rattle.book.specs.Book.{withLegs, withLedger, todayOf}
 
 -- ---- Enter
--- E1, Enter: the leg of an instruction, which waits
+-- E1, Enter: the leg of an instruction with these numbers
 abbrev pub newLeg : ℕ → ℕ → ℕ → ℕ → ℕ → Day → Leg
 newLeg member other side q a j = legOf (record { member = member; other = other; side = side; quantity = q; amount = a; day = j })
 
@@ -117,19 +117,23 @@ cancelRefusals b n member = fetchRefusals (cancelRefusalsIn member) (fetched (b 
 abbrev pub cancelRefused : Book → ℕ → Cancelled
 cancelRefused b n = record { answer = n; moved = 0; book = b }
 
+-- K1 to K3, Cancel: what it comes to if it is done on obligation o: the quantity that is cancelled, and o with the wish
+abbrev pub cancelTo : ℕ → Obligation → Change
+cancelTo member o = record { answer = 0; result = movedByWish member o; obligation = wishing member o }
+
 -- K1 to K3, Cancel: what it returns if it is done on obligation n, which is o
 abbrev pub cancelDone : Book → ℕ → ℕ → Obligation → Cancelled
 cancelDone b n member o = record {
   answer = 0;
-  moved = movedByWish member o;
-  book = withLedger (withObligation n (wishing member o) (b .ledger)) b;
+  moved = cancelTo member o .result;
+  book = withLedger (withObligation n (cancelTo member o .obligation) (b .ledger)) b;
 }
 
 -- K1 to K4, Cancel: what it comes to on what was fetched
 unfoldable pub cancelChange : ℕ → Fetched → Change
 cancelChange member f =
     fetchOutcome (cancelRefusalsIn member) f (λ o. cancelRefusalsOf o member)
-    (λ o. record { answer = 0; result = movedByWish member o; obligation = wishing member o })
+    (cancelTo member)
     refusedChange
 
 -- K1 to K4, Cancel
@@ -147,19 +151,23 @@ deliverRefusals b n q = fetchRefusals (deliverRefusalsIn q) (fetched (b .ledger)
 abbrev pub deliverRefused : Book → ℕ → Delivered
 deliverRefused b n = record { answer = n; cash = 0; book = b }
 
+-- V1 and V2, Deliver: what it comes to if it is done on obligation o: the cash, and o after the delivery
+abbrev pub deliverTo : ℕ → Obligation → Change
+deliverTo q o = record { answer = 0; result = cashOf o q; obligation = deliveringFrom q o }
+
 -- V1 and V2, Deliver: what it returns if it is done on obligation n, which is o
 abbrev pub deliverDone : Book → ℕ → ℕ → Obligation → Delivered
 deliverDone b n q o = record {
   answer = 0;
-  cash = cashOf o q;
-  book = withLedger (withObligation n (deliveringFrom q o) (b .ledger)) b;
+  cash = deliverTo q o .result;
+  book = withLedger (withObligation n (deliverTo q o .obligation) (b .ledger)) b;
 }
 
 -- V1 and V2, Deliver: what it comes to on what was fetched, on this day
 unfoldable pub deliverChange : Day → ℕ → Fetched → Change
 deliverChange today q f =
     fetchOutcome (deliverRefusalsIn q) f (λ o. deliverRefusalsOf today o q)
-    (λ o. record { answer = 0; result = cashOf o q; obligation = deliveringFrom q o })
+    (deliverTo q)
     refusedChange
 
 -- V1 and V2, Deliver

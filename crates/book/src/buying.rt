@@ -11,8 +11,9 @@ ghost use Rattle.ledger.specs.Ledger.{SoundFetched};
 ghost use Rattle.book.specs.Book.{Valid};
 ghost use Rattle.book.specs.Buying.{offerNumber, offer};
 
-// The answer number of an Offer for the obligation that was fetched, in a book with this setup, day and number of offers.
-fn offer_answer(
+// The answer number of an Offer for the obligation that was fetched, in a book with this setup, day and number of
+// offers.
+fn offer_number(
     fetched: Fetched,
     setup: Setup,
     today: Day,
@@ -45,7 +46,7 @@ impl Book {
     {
         let mut ledger = self.ledger;
         let mut held = ledger.offers;
-        let number = offer_answer(
+        let number = offer_number(
             ledger.fetch(obligation),
             self.setup,
             self.day.today,

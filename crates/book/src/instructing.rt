@@ -63,7 +63,7 @@ fn withdraw_answer(fetched: FetchedLeg, member: u64) -> u64
 }
 
 // What a Cancel comes to on the obligation that was fetched. Its result is the quantity that is cancelled.
-fn cancelling(fetched: Fetched, member: u64) -> Change
+fn cancel_change(fetched: Fetched, member: u64) -> Change
     requires { ⌜ SoundFetched fetched ⌝ }
     ensures { λ r. ⌜ r ≡ cancelChange member fetched ⌝ }
 {
@@ -85,7 +85,7 @@ fn cancelling(fetched: Fetched, member: u64) -> Change
 }
 
 // What a Deliver comes to on the obligation that was fetched. Its result is the cash.
-fn delivering(fetched: Fetched, today: Day, quantity: u64) -> Change
+fn deliver_change(fetched: Fetched, today: Day, quantity: u64) -> Change
     requires { ⌜ SoundFetched fetched ⌝ }
     ensures { λ r. ⌜ r ≡ deliverChange today quantity fetched ⌝ }
 {
@@ -204,7 +204,7 @@ impl Book {
         ensures { λ r. ⌜ Valid (r .book) ⌝ }
     {
         let ledger = self.ledger;
-        let change = cancelling(ledger.fetch(obligation), member);
+        let change = cancel_change(ledger.fetch(obligation), member);
         let after = ledger.change(obligation, change);
         self.ledger = after;
         Cancelled {
@@ -221,7 +221,7 @@ impl Book {
         ensures { λ r. ⌜ Valid (r .book) ⌝ }
     {
         let ledger = self.ledger;
-        let change = delivering(ledger.fetch(obligation), self.day.today, quantity);
+        let change = deliver_change(ledger.fetch(obligation), self.day.today, quantity);
         let after = ledger.change(obligation, change);
         self.ledger = after;
         Delivered {

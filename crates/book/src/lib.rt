@@ -20,8 +20,8 @@ pub struct BookDay {
     pub close_since: bool,
 }
 
-// The settlement-discipline book of one bond. The large arrays stand first and the small fields last, so that there is no
-// gap in front of an array; the compiler then copies only the arrays that a call changes.
+// The settlement-discipline book of one bond. The large arrays stand first and the small fields last, so that there is
+// no gap in front of an array; the compiler then copies only the arrays that a call changes.
 pub struct Book {
     pub legs: Legs,
     pub ledger: Ledger,

@@ -296,8 +296,8 @@ fn fine(accounts: &mut [i64], o: Obligation, today: Day, price: u64, rate: u64)
     }
 }
 
-// Closes a ledger: it closes all obligations, in rising number, and moves the penalty of each. Then it removes the offers.
-// A row is read just before it is stored, so that one array of rows is enough.
+// Closes a ledger: it closes all obligations, in rising number, and moves the penalty of each. Then it removes the
+// offers. A row is read just before it is stored, so that one array of rows is enough.
 pub fn close(l: Ledger, day: DayEnd, lines: &mut [u64]) -> ClosedLedger
     requires { ⌜ Closable day l (now lines) ⌝ }
     ensures { λ r. ⌜ ClosedAs (closedLedger day l) (closeLines day l) (r .ledger) (r .count) (now (lines .entry)) (now (lines .exit)) ⌝ }

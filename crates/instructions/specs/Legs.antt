@@ -35,7 +35,8 @@ legOf i = record {
   state = Waiting;
 }
 
--- what is required so that a leg can hold the numbers of an instruction: they are at most what fits its fields
+-- what is required so that a leg can hold the numbers of an instruction: the members and the side fit 8 bits, and the
+-- quantity is within its limit
 pub record Fitting (i : Instruction) : Type 0 where
   pub member-fits : i .member ≤ 255
   pub other-fits : i .other ≤ 255

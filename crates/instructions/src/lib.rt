@@ -26,8 +26,8 @@ pub struct Instruction {
     pub day: Day,
 }
 
-// One member's instruction, as the book keeps it. Side 0 delivers, side 1 receives. Its fields are as narrow as their limits allow, because
-// the book holds 128 of these and is copied at every call.
+// One member's instruction, as the book keeps it. Side 0 delivers, side 1 receives. Its fields are narrow, because the
+// book holds 128 of these and is copied at every call.
 pub struct Leg {
     pub amount: u64,
     pub day: Day,

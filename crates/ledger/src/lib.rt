@@ -1,5 +1,5 @@
-// The ledger: obligations with their parts, the day's offers and the members' accounts, and what a delivery and a wish to
-// cancel do to an obligation.
+// The ledger: obligations with their parts, the day's offers and the members' accounts, and what a delivery and a wish
+// to cancel do to an obligation.
 use calendar::ClearingDays;
 use calendar::ClosedDays;
 use calendar::Day;
@@ -75,8 +75,8 @@ pub struct Wishes {
     pub buyer: bool,
 }
 
-// A deal with what has become of it. Its fields are as narrow as their limits allow, because the book holds 64 of these
-// and is copied at every call.
+// A deal with what has become of it. Its fields are narrow, because the book holds 64 of these and is copied at every
+// call.
 pub struct Obligation {
     pub deal: Deal,
     pub parts: Parts,
@@ -90,8 +90,8 @@ pub enum Fetched {
     Absent,
 }
 
-// What a call comes to on the obligation that it names: its answer number, its result, and the obligation as it is then.
-// A refused call has the result 0, and its obligation is not used.
+// What a call comes to on the obligation that it names: its answer number, its result, and the obligation as it is
+// then. A refused call has the result 0, and its obligation is not used.
 pub struct Change {
     pub answer: u64,
     pub result: u64,

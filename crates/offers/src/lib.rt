@@ -11,8 +11,8 @@ ghost use Rattle.offers.specs.BuyIn.{given, boughtWith};
 // The most offers of a day; `mostOffers` in specs/.
 pub const MOST_OFFERS: usize = 64;
 
-// A supplier's offer for one obligation. The fields are as narrow as their limits allow, because the book holds many of
-// them, and they leave no gap between two offers.
+// A supplier's offer for one obligation. Its fields are narrow, because the book holds 64 of these and is copied at
+// every call, and there is no gap between two offers.
 pub struct Offer {
     pub obligation: u16,
     pub supplier: u16,

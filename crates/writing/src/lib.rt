@@ -63,7 +63,7 @@ fn put_pair(out: &mut [u8], at: usize, n: u64) -> usize
 }
 
 // Writes the digits of a number at a place: those of its hundredth part, and then the last two. They are written in
-// pairs because a division costs more than the rest.
+// pairs, so that the function calls itself half as often.
 fn put_digits(out: &mut [u8], at: usize, n: u64) -> usize
     requires { ⌜ at + length (digitsOf n) ≤ length (now out) ⌝ }
     ensures { λ r. ⌜ Wrote (digitsOf n) (now (out .entry)) at (now (out .exit)) r ⌝ }
@@ -78,8 +78,8 @@ fn put_digits(out: &mut [u8], at: usize, n: u64) -> usize
     put_pair(out, next, n % 100)
 }
 
-// Writes a number at a place, in at most 20 digits. Most numbers of an answer have one digit, and these do not go through
-// the function that calls itself, since that costs more than the digit.
+// Writes a number at a place, in at most 20 digits. Most numbers of an answer have one digit, and these do not go
+// through the function that calls itself, since that costs more than the digit.
 pub fn write_number(out: &mut [u8], at: usize, n: u64) -> usize
     requires { ⌜ at + 20 ≤ length (now out) ⌝ }
     ensures { λ r. ⌜ Wrote (digitsOf n) (now (out .entry)) at (now (out .exit)) r ⌝ }

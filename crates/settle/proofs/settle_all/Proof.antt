@@ -1,6 +1,6 @@
 -- `settle_all` meets its contract. The loop's invariant: `Stands` holds, and the buffers keep their lengths. The
 -- measure is how many turns are left.
-use Prim.Native.Nat.{ℕ, _+_, _*_, _≤_, _<_}
+use Prim.Native.Nat.{ℕ}
 use native.Mathlib.Omega.{arith}
 use mathlib.Core.Path.{_≡_, refl, ap, _∙_}
 use mathlib.Core.List.{List}
@@ -13,7 +13,6 @@ use Rattle.book.proofs.Ended.{close-fits}
 use Rattle.answers.specs.Text.{Tellable}
 use Rattle.answers.proofs.Tells.{nothing-tells, no-call-tells, numbers-tells, balance-tells, closed-tells, paid-tells}
 use Rattle.settle.specs.declared.flow.Flow.{Flow}
-use Rattle.settle.specs.declared.calls.Asked.{Asked}
 use Rattle.settle.specs.declared.calls.Played.{Played}
 use Rattle.settle.specs.Calls.{played, lentTo, afterDone, afterCancel, afterDeliver, afterCall, closeAsked, monthAsked, shownAs, balanceAs, answerBy}
 use Rattle.settle.specs.Turns.{Held, begins}

@@ -17,18 +17,18 @@ use Rattle.book.proofs.Book.cancel.Statement.{statement}
 use Rattle.book.proofs.Book.cancel.Tie as tie
 
 -- what the call comes to, by the obligation that the book fetches
-comes : (c : tie.After-cancelling) →
+comes : (c : tie.After-cancel-change) →
     let a = c .before .before .before .args in
-    c .cancelling .result ≡ cancelChange (a .member) (fetched (a .self .ledger) (a .obligation))
+    c .cancel-change .result ≡ cancelChange (a .member) (fetched (a .self .ledger) (a .obligation))
 comes c =
     let a = c .before .before .before .args in
-    c .cancelling .ensures ∙ ap (cancelChange (a .member)) (c .before .fetch .ensures)
+    c .cancel-change .ensures ∙ ap (cancelChange (a .member)) (c .before .fetch .ensures)
 
 fetch-requires : tie.Need-fetch-requires
 fetch-requires c κs = search needs
 
-cancelling-requires : tie.Need-cancelling-requires
-cancelling-requires c κs o e =
+cancel-change-requires : tie.Need-cancel-change-requires
+cancel-change-requires c κs o e =
     let s = c .before .before in fetched-sound (s .args .self .ledger) (s .pre .ledger) (s .args .obligation) o (sym (c .fetch .ensures) ∙ e)
 
 change-requires : tie.Need-change-requires
@@ -49,4 +49,4 @@ returns c =
     (cancel-valid _ (s .pre) (a .obligation) (a .member))
 
 pub cancel-spec : {M : Type 1} → statement M
-cancel-spec = tie.close (tie.spec fetch-requires cancelling-requires change-requires returns)
+cancel-spec = tie.close (tie.spec fetch-requires cancel-change-requires change-requires returns)

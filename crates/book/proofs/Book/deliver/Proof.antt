@@ -17,18 +17,18 @@ use Rattle.book.proofs.Book.deliver.Statement.{statement}
 use Rattle.book.proofs.Book.deliver.Tie as tie
 
 -- what the call comes to, by the obligation that the book fetches
-comes : (c : tie.After-delivering) →
+comes : (c : tie.After-deliver-change) →
     let a = c .before .before .before .args in
-    c .delivering .result ≡ deliverChange (todayOf (a .self)) (a .quantity) (fetched (a .self .ledger) (a .obligation))
+    c .deliver-change .result ≡ deliverChange (todayOf (a .self)) (a .quantity) (fetched (a .self .ledger) (a .obligation))
 comes c =
     let a = c .before .before .before .args in
-    c .delivering .ensures ∙ ap (deliverChange (todayOf (a .self)) (a .quantity)) (c .before .fetch .ensures)
+    c .deliver-change .ensures ∙ ap (deliverChange (todayOf (a .self)) (a .quantity)) (c .before .fetch .ensures)
 
 fetch-requires : tie.Need-fetch-requires
 fetch-requires c κs = search needs
 
-delivering-requires : tie.Need-delivering-requires
-delivering-requires c κs o e =
+deliver-change-requires : tie.Need-deliver-change-requires
+deliver-change-requires c κs o e =
     let s = c .before .before in fetched-sound (s .args .self .ledger) (s .pre .ledger) (s .args .obligation) o (sym (c .fetch .ensures) ∙ e)
 
 change-requires : tie.Need-change-requires
@@ -49,4 +49,4 @@ returns c =
     (deliver-valid _ (s .pre) (a .obligation) (a .quantity))
 
 pub deliver-spec : {M : Type 1} → statement M
-deliver-spec = tie.close (tie.spec fetch-requires delivering-requires change-requires returns)
+deliver-spec = tie.close (tie.spec fetch-requires deliver-change-requires change-requires returns)

@@ -3,11 +3,9 @@ use native.Mathlib.Omega.{arith}
 use mathlib.Core.Path.{_≡_, sym, ap, _∙_}
 use borrow.Author.Needs.{needs}
 use Rattle.instructions.specs.declared.Leg.{Leg}
-use Rattle.instructions.specs.declared.Fit.{Fit}
 use Rattle.instructions.specs.Legs.{withLeg}
 use Rattle.instructions.specs.Match.{lowestFit}
 use Rattle.refusals.proofs.Refusals.{refused-with, done-by}
-use Rattle.book.specs.declared.Book.{Book}
 use Rattle.book.specs.declared.Entered.{Entered}
 use Rattle.book.specs.Book.{withLegs}
 use Rattle.book.specs.Instructing.{newLeg, enteredAlone, enteredWith, enteredBy, enterRefused, enter}

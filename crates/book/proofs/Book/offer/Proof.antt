@@ -21,22 +21,22 @@ use Rattle.book.proofs.Kept.{offer-valid}
 use Rattle.book.proofs.Book.offer.Statement.{statement}
 use Rattle.book.proofs.Book.offer.Tie as tie
 
-abbrev start : tie.After-offer-answer → tie.Start
+abbrev start : tie.After-offer-number → tie.Start
 start c = c .before .before .before .before
 
 -- the answer number, by the obligation that the book fetches
-number : (c : tie.After-offer-answer) →
+number : (c : tie.After-offer-number) →
     let a = start c .args in
     answer (fetchRefusals (offerRefusalsIn (a .supplier) (a .quantity) (a .price)) (fetched (a .self .ledger) (a .obligation)) (offerRefusalsFor (a .self) (a .price)))
-    ≡ c .offer-answer .result
+    ≡ c .offer-number .result
 unfolding ageOf offerNumber
 number c =
     let a = start c .args in
-    sym (c .offer-answer .ensures
+    sym (c .offer-number .ensures
     ∙ ap (offerNumber (a .self .setup) (todayOf (a .self)) (a .self .ledger .offers .count) (a .supplier) (a .quantity) (a .price)) (c .before .fetch .ensures))
 
 -- an offer that is not refused
-passes : (c : tie.After-offer-answer) → c .offer-answer .result ≡ 0 →
+passes : (c : tie.After-offer-number) → c .offer-number .result ≡ 0 →
     let a = start c .args in
     (a .obligation < a .self .ledger .count) × (answer (offerRefusalsIn (a .supplier) (a .quantity) (a .price)) ≡ 0)
     × (answer (offerRefusalsFor (a .self) (a .price) (obligationAt (a .self .ledger) (a .obligation))) ≡ 0)
@@ -50,8 +50,8 @@ numbers c = offered _ _ _ (passes (c .before) (c .if1 .taken) .1)
 fetch-requires : tie.Need-fetch-requires
 fetch-requires c κs = search needs
 
-offer-answer-requires : tie.Need-offer-answer-requires
-offer-answer-requires c κs =
+offer-number-requires : tie.Need-offer-number-requires
+offer-number-requires c κs =
     let s = c .before .before .before in
     ((λ o e. fetched-sound (s .args .self .ledger) (s .pre .ledger) (s .args .obligation) o (sym (c .fetch .ensures) ∙ e)), s .pre .setup)
 
@@ -96,7 +96,7 @@ offer-spec =
     tie.close
     (tie.spec
     fetch-requires
-    offer-answer-requires
+    offer-number-requires
     cast-t11
     cast-t12
     cast-t13

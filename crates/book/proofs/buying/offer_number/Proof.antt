@@ -1,24 +1,23 @@
--- `offer_answer` meets its contract.
-use mathlib.Core.Path.{_≡_, refl, sym, ap, _∙_}
+-- `offer_number` meets its contract.
+use mathlib.Core.Path.{refl, sym, ap, _∙_}
 use borrow.Author.Needs.{needs}
 use mathlib.Core.List.{List}
 use Rattle.calendar.specs.declared.ClearingDays.{ClearingDays}
-use Rattle.calendar.specs.Closed.{listed}
-use Rattle.calendar.specs.Days.{ageAt}
 use Rattle.ledger.specs.declared.Obligation.{Obligation}
 use Rattle.refusals.specs.Refusals.{Refusal, answer}
 use Rattle.refusals.specs.Calls.{offerRefusalsIn, offerRefusalsOf}
 use Rattle.refusals.proofs.Offering.{offered}
 use Rattle.refusals.proofs.Named.{input-answer, absent-answer, found-answer}
+use Rattle.book.specs.Book.{ageBy}
 use Rattle.book.specs.Buying.{offerNumber}
-use Rattle.book.proofs.buying.offer_answer.Statement.{statement}
-use Rattle.book.proofs.buying.offer_answer.Tie as tie
+use Rattle.book.proofs.buying.offer_number.Statement.{statement}
+use Rattle.book.proofs.buying.offer_number.Tie as tie
 
 -- the refusals on an obligation that was found
 abbrev on : tie.Start → Obligation → List Refusal
 on s o =
     let a = s .args in
-    offerRefusalsOf (a .setup .terms) (a .today) (ageAt (listed (a .setup .«closed_days»)) (o .deal .day) (a .today) .0) (a .offers) o (a .price)
+    offerRefusalsOf (a .setup .terms) (a .today) (ageBy (a .setup) (a .today) o) (a .offers) o (a .price)
 
 offer-answer-requires : tie.Need-offer-answer-requires
 offer-answer-requires c κs = search needs
@@ -59,8 +58,8 @@ returns-3 c =
     ∙ ap (λ (g : ClearingDays). answer (offerRefusalsOf (a .setup .terms) (a .today) (g .0) (a .offers) o (a .price))) (c .before .age-at .ensures)
     ∙ sym (found-answer _ _ refl _ o (sym (asked .before .offer-answer .ensures) ∙ asked .if1 .left) (found .fetched .given .1))
 
-pub offer-answer-spec : {M : Type 1} → statement M
-offer-answer-spec =
+pub offer-number-spec : {M : Type 1} → statement M
+offer-number-spec =
     tie.close
     (tie.spec
     offer-answer-requires

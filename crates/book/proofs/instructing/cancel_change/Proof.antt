@@ -1,4 +1,4 @@
--- `cancelling` meets its contract.
+-- `cancel_change` meets its contract.
 use native.Mathlib.Omega.{arith}
 use mathlib.Core.Path.{refl, sym, _∙_}
 use borrow.Author.Needs.{needs}
@@ -7,8 +7,8 @@ use Rattle.ledger.specs.Ledger.{refusedChange}
 use Rattle.refusals.proofs.Refusals.{pass, stop, all-passed}
 use Rattle.refusals.proofs.Named.{input-refused, absent-refused, found-refused, found-done}
 use Rattle.book.specs.Instructing.{cancelChange}
-use Rattle.book.proofs.instructing.cancelling.Statement.{statement}
-use Rattle.book.proofs.instructing.cancelling.Tie as tie
+use Rattle.book.proofs.instructing.cancel_change.Statement.{statement}
+use Rattle.book.proofs.instructing.cancel_change.Tie as tie
 
 refused-requires : tie.Need-refused-requires
 refused-requires c κs = search needs
@@ -62,8 +62,8 @@ returns-4 c =
     ∙ found-done _ _ _ refusedChange refl (pass 1 _ (le-ltb _ _ (found .before .before .if1 .left)) ∙ all-passed) _ _
     (found .fetched .given .1) (sym (c .before .before .before .cancel-answer .ensures) ∙ c .before .before .if2 .left)
 
-pub cancelling-spec : {M : Type 1} → statement M
-cancelling-spec =
+pub cancel-change-spec : {M : Type 1} → statement M
+cancel-change-spec =
     tie.close
     (tie.spec
     refused-requires

@@ -1,4 +1,4 @@
--- `delivering` meets its contract.
+-- `deliver_change` meets its contract.
 use native.Mathlib.Omega.{arith}
 use mathlib.Core.Path.{refl, sym, _∙_}
 use borrow.Author.Needs.{needs}
@@ -9,8 +9,8 @@ use Rattle.refusals.specs.Calls.{deliverRefusalsOf}
 use Rattle.refusals.proofs.Refusals.{pass, stop, passed, all-passed}
 use Rattle.refusals.proofs.Named.{input-refused, absent-refused, found-refused, found-done}
 use Rattle.book.specs.Instructing.{deliverChange}
-use Rattle.book.proofs.instructing.delivering.Statement.{statement}
-use Rattle.book.proofs.instructing.delivering.Tie as tie
+use Rattle.book.proofs.instructing.deliver_change.Statement.{statement}
+use Rattle.book.proofs.instructing.deliver_change.Tie as tie
 
 -- an obligation of which no more is delivered than is outstanding
 takes : (c : tie.Else2) → Takes (c .before .before .before .fetched .given .0 .0) (c .before .before .before .before .before .before .before .args .quantity)
@@ -77,8 +77,8 @@ returns-4 c =
     ∙ found-done _ _ _ refusedChange refl (pass 2 _ (sym (asked .before .is-outside .ensures) ∙ asked .if1 .left) ∙ all-passed) _ _
     (found .fetched .given .1) (sym (c .before .before .before .deliver-answer .ensures) ∙ c .before .before .if2 .left)
 
-pub delivering-spec : {M : Type 1} → statement M
-delivering-spec =
+pub deliver-change-spec : {M : Type 1} → statement M
+deliver-change-spec =
     tie.close
     (tie.spec
     is-outside-requires
