@@ -7,13 +7,13 @@ use lib.IntN.{pos, natAbs}
 use lib.ListN.{getD}
 use Rattle.calendar.specs.declared.Day.{Day}
 use Rattle.calendar.specs.Closed.{lastDay, listed}
-use Rattle.calendar.specs.Days.{clearing, ageAt}
+use Rattle.calendar.specs.Days.{clearing}
 use Rattle.instructions.specs.declared.Legs.{Legs}
 use Rattle.instructions.specs.Legs.{waiting, ValidLegs}
-use Rattle.ledger.specs.declared.Setup.{Setup}
 use Rattle.ledger.specs.declared.Obligation.{Obligation}
 use Rattle.ledger.specs.declared.Ledger.{Ledger}
 use Rattle.ledger.specs.Setup.{ValidSetup}
+use Rattle.ledger.specs.Obligations.{ageBy}
 use Rattle.ledger.specs.Ledger.{obligationAt, ValidLedger}
 use Rattle.book.specs.declared.BookDay.{BookDay}
 use Rattle.book.specs.declared.Book.{Book}
@@ -38,10 +38,6 @@ closedOf b = listed (b .setup .«closed_days»)
 abbrev pub todayOf : Book → Day
 todayOf b = b .day .today
 
--- B1, Buy-in: the age of an obligation on a day, with the closed days of a setup
-abbrev pub ageBy : Setup → Day → Obligation → ℕ
-ageBy setup today o = ageAt (listed (setup .«closed_days»)) (o .deal .day) today .0
-
 -- B1, Buy-in: the age of an obligation of the book
 unfoldable pub ageOf : Book → Obligation → ℕ
 ageOf b o = ageBy (b .setup) (todayOf b) o
@@ -51,8 +47,8 @@ abbrev pub mostPerDay : ℕ
 mostPerDay = 96000000
 
 -- what holds of the day of every book with these closed days
-pub record ValidDay (closed : List Day) (d : BookDay) : Type 0 where
-  pub today-clears : clearing closed (d .today) ≡ true
+pub record ValidDay (closedDays : List Day) (d : BookDay) : Type 0 where
+  pub today-clears : clearing closedDays (d .today) ≡ true
   pub today-most : d .today .0 ≤ lastDay
 
 -- what holds of every obligation of a book beside its soundness: its day clears, and what is outstanding of it has not

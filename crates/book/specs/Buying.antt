@@ -5,24 +5,27 @@ use Rattle.calendar.specs.declared.Day.{Day}
 use Rattle.ledger.specs.declared.Setup.{Setup}
 use Rattle.ledger.specs.declared.Obligation.{Obligation}
 use Rattle.ledger.specs.declared.Fetched.{Fetched}
+use Rattle.ledger.specs.Obligations.{ageBy}
 use Rattle.ledger.specs.Ledger.{fetched, withOfferFor}
 use Rattle.book.specs.declared.Book.{Book}
 use Rattle.book.specs.declared.Done.{Done}
 use Rattle.refusals.specs.Calls.{fetchRefusals, fetchOutcome, offerRefusalsIn, offerRefusalsOf}
 use Rattle.refusals.specs.Refusals.{Refusal, answer}
-use Rattle.book.specs.Book.{withLedger, todayOf, ageBy, ageOf}
+use Rattle.book.specs.Book.{withLedger, todayOf}
 use Rattle.book.specs.Instructing.{doneRefused}
 
--- A11, Refusals, of Offer on the obligation that was found
-abbrev pub offerRefusalsFor : Book → ℕ → Obligation → List Refusal
-offerRefusalsFor b price o = offerRefusalsOf (b .setup .terms) (todayOf b) (ageOf b o) (b .ledger .offers .count) o price
+-- A11, Refusals, of Offer on the obligation that was found, with this setup, on this day and with this many offers
+abbrev pub offerRefusalsBy : Setup → Day → ℕ → ℕ → Obligation → List Refusal
+offerRefusalsBy setup today offers price o = offerRefusalsOf (setup .terms) today (ageBy setup today o) offers o price
 
--- A11, Refusals, of Offer: its answer number by what was fetched, in a book with this setup, on this day and with this
--- many offers
+-- A11, Refusals, of Offer on the obligation that was found in the book
+abbrev pub offerRefusalsFor : Book → ℕ → Obligation → List Refusal
+offerRefusalsFor b price o = offerRefusalsBy (b .setup) (todayOf b) (b .ledger .offers .count) price o
+
+-- A11, Refusals, of Offer: its answer number by what was fetched, with this setup, on this day and with this many offers
 unfoldable pub offerNumber : Setup → Day → ℕ → ℕ → ℕ → ℕ → Fetched → ℕ
 offerNumber setup today offers supplier q price f =
-    answer (fetchRefusals (offerRefusalsIn supplier q price) f
-    (λ o. offerRefusalsOf (setup .terms) today (ageBy setup today o) offers o price))
+    answer (fetchRefusals (offerRefusalsIn supplier q price) f (offerRefusalsBy setup today offers price))
 
 -- A11, Refusals, of Offer
 unfoldable pub offerRefusals : Book → ℕ → ℕ → ℕ → ℕ → List Refusal

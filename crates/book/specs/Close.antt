@@ -30,7 +30,7 @@ dayEnd b price rate = record { setup = b .setup; today = todayOf b; price = pric
 abbrev pub linesOf : Book → ℕ → ℕ → List Line
 linesOf b price rate = closeLines (dayEnd b price rate) (b .ledger)
 
--- C17 and R21: the day after it, on which a Month may come
+-- C17, Close, and R21, Refusals: the day after it, on which a Month may come
 abbrev pub closedDay : Day → BookDay
 closedDay next = record { today = next; «close_since» = true }
 

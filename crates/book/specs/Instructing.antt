@@ -129,18 +129,17 @@ cancelDone b n member o = record {
   book = withLedger (withObligation n (cancelTo member o .obligation) (b .ledger)) b;
 }
 
+-- K1 to K4, Cancel: done or refused, by what was fetched
+abbrev pub cancelOutcome : {A : Type 0} → ℕ → Fetched → (Obligation → A) → (ℕ → A) → A
+cancelOutcome member f done refused = fetchOutcome (cancelRefusalsIn member) f (λ o. cancelRefusalsOf o member) done refused
+
 -- K1 to K4, Cancel: what it comes to on what was fetched
 unfoldable pub cancelChange : ℕ → Fetched → Change
-cancelChange member f =
-    fetchOutcome (cancelRefusalsIn member) f (λ o. cancelRefusalsOf o member)
-    (cancelTo member)
-    refusedChange
+cancelChange member f = cancelOutcome member f (cancelTo member) refusedChange
 
 -- K1 to K4, Cancel
 unfoldable pub cancel : Book → ℕ → ℕ → Cancelled
-cancel b n member =
-    fetchOutcome (cancelRefusalsIn member) (fetched (b .ledger) n) (λ o. cancelRefusalsOf o member) (cancelDone b n member)
-    (cancelRefused b)
+cancel b n member = cancelOutcome member (fetched (b .ledger) n) (cancelDone b n member) (cancelRefused b)
 
 -- ---- Deliver
 -- A10, Refusals, of Deliver
@@ -163,15 +162,14 @@ deliverDone b n q o = record {
   book = withLedger (withObligation n (deliverTo q o .obligation) (b .ledger)) b;
 }
 
+-- V1 and V2, Deliver: done or refused, by what was fetched, on this day
+abbrev pub deliverOutcome : {A : Type 0} → Day → ℕ → Fetched → (Obligation → A) → (ℕ → A) → A
+deliverOutcome today q f done refused = fetchOutcome (deliverRefusalsIn q) f (λ o. deliverRefusalsOf today o q) done refused
+
 -- V1 and V2, Deliver: what it comes to on what was fetched, on this day
 unfoldable pub deliverChange : Day → ℕ → Fetched → Change
-deliverChange today q f =
-    fetchOutcome (deliverRefusalsIn q) f (λ o. deliverRefusalsOf today o q)
-    (deliverTo q)
-    refusedChange
+deliverChange today q f = deliverOutcome today q f (deliverTo q) refusedChange
 
 -- V1 and V2, Deliver
 unfoldable pub deliver : Book → ℕ → ℕ → Delivered
-deliver b n q =
-    fetchOutcome (deliverRefusalsIn q) (fetched (b .ledger) n) (λ o. deliverRefusalsOf (todayOf b) o q) (deliverDone b n q)
-    (deliverRefused b)
+deliver b n q = deliverOutcome (todayOf b) q (fetched (b .ledger) n) (deliverDone b n q) (deliverRefused b)

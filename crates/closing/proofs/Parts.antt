@@ -9,8 +9,6 @@ use lib.Dec.{eqb}
 use lib.ListN.{length, length-append}
 use borrow.Author.Tests.{eqb-true, eq-eqb, ne-eqb}
 use Rattle.basics.proofs.Cases.{pick-case}
-use Rattle.calendar.specs.Closed.{listed as closedListed}
-use Rattle.calendar.specs.Days.{ageAt}
 use Rattle.amounts.specs.Amounts.{mostClosePrice}
 use Rattle.offers.specs.declared.Offer.{Offer}
 use Rattle.offers.specs.declared.Given.{Given}
@@ -25,7 +23,7 @@ use Rattle.ledger.specs.declared.Part.the-variants.{BoughtIn, Compensated}
 use Rattle.ledger.specs.declared.Parts.{Parts}
 use Rattle.ledger.specs.declared.Obligation.{Obligation}
 use Rattle.ledger.specs.Setup.{ValidTerms}
-use Rattle.ledger.specs.Obligations.{inBuyIn, isDue, moving, Sound}
+use Rattle.ledger.specs.Obligations.{ageBy, inBuyIn, isDue, moving, Sound}
 use Rattle.ledger.proofs.Keeping.{moving-sound, takes-all, priced-sound, Later, later-same, later-then, moving-later, priced-later}
 use Rattle.closing.specs.declared.DayEnd.{DayEnd}
 use Rattle.closing.specs.Lines.{Made, nothing, then}
@@ -121,7 +119,7 @@ pub closed-goes : (d : DayEnd) (offers : List Offer) (n : ℕ) (o : Obligation) 
 unfolding closedOne
 closed-goes d offers n o h s =
     pick-case (λ (m : Made). Goes o (m .obligation)) (isDue (d .today) o) _ _
-    (λ e. stages-goes d (ageAt (closedListed (d .setup .«closed_days»)) (o .deal .day) (d .today) .0) offers n o h s)
+    (λ e. stages-goes d (ageBy (d .setup) (d .today) o) offers n o h s)
     (λ e. goes-same o s)
 
 -- ---- how many lines
@@ -183,7 +181,7 @@ pub closed-most : (d : DayEnd) (offers : List Offer) (n : ℕ) (o : Obligation) 
 unfolding closedOne
 closed-most d offers n o h =
     pick-case (λ (m : Made). length (m .lines) ≤ 2 + length (given n (o .parts .outstanding) offers)) (isDue (d .today) o) _ _
-    (λ e. stages-most d (ageAt (closedListed (d .setup .«closed_days»)) (o .deal .day) (d .today) .0) offers n o h)
+    (λ e. stages-most d (ageBy (d .setup) (d .today) o) offers n o h)
     (λ e. omega arith)
 
 -- ---- what a pass over the offers has found
@@ -219,10 +217,10 @@ compensated-none price n o =
 
 -- after a Close at age = last nothing of the obligation is outstanding
 pub last-none : (d : DayEnd) (offers : List Offer) (n : ℕ) (o : Obligation) → isDue (d .today) o ≡ true →
-    ageAt (closedListed (d .setup .«closed_days»)) (o .deal .day) (d .today) .0 ≡ d .setup .terms .last .0 → closedOne d offers n o .obligation .parts .outstanding ≡ 0
+    ageBy (d .setup) (d .today) o ≡ d .setup .terms .last .0 → closedOne d offers n o .obligation .parts .outstanding ≡ 0
 unfolding closedOne compensatedAt
 last-none d offers n o t e =
-    let age = ageAt (closedListed (d .setup .«closed_days»)) (o .deal .day) (d .today) .0 in
+    let age = ageBy (d .setup) (d .today) o in
     rw (t, stages-obligation d age offers n o, eq-eqb age (d .setup .terms .last .0) e)
     (compensated-none (d .price) n (bought d age offers n o .obligation))
 

@@ -5,15 +5,13 @@ use lib.IntN.{ℤ}
 use lib.ListN.{getD, set}
 use Rattle.basics.specs.Choice.{pick}
 use Rattle.calendar.specs.declared.Day.{Day}
-use Rattle.calendar.specs.Closed.{listed as closedListed}
-use Rattle.calendar.specs.Days.{ageAt}
 use Rattle.amounts.specs.Amounts.{penalty}
 use Rattle.netting.specs.Accounts.{transferred}
 use Rattle.offers.specs.declared.Offer.{Offer}
 use Rattle.offers.specs.Held.{noOffers, listed}
 use Rattle.ledger.specs.declared.Obligation.{Obligation}
 use Rattle.ledger.specs.declared.Ledger.{Ledger}
-use Rattle.ledger.specs.Obligations.{noObligation, isDue}
+use Rattle.ledger.specs.Obligations.{noObligation, ageBy, isDue}
 use Rattle.closing.specs.declared.DayEnd.{DayEnd}
 use Rattle.closing.specs.declared.Line.{Line}
 use Rattle.closing.specs.Lines.{Made, nothing, then}
@@ -32,7 +30,7 @@ stages d age offers n o =
 -- any other obligation stays as it is.
 unfoldable pub closedOne : DayEnd → List Offer → ℕ → Obligation → Made
 closedOne d offers n o =
-    pick (isDue (d .today) o) (stages d (ageAt (closedListed (d .setup .«closed_days»)) (o .deal .day) (d .today) .0) offers n o) (nothing o)
+    pick (isDue (d .today) o) (stages d (ageBy (d .setup) (d .today) o) offers n o) (nothing o)
 
 -- obligation number n, as the Close leaves it, with its lines
 abbrev pub closedAt : DayEnd → List Offer → List Obligation → ℕ → Made

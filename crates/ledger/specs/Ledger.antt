@@ -49,7 +49,7 @@ withObligation n o l = record { obligations = set (l .obligations) n o; count = 
 abbrev pub SoundFetched : Fetched → Type 0
 SoundFetched f = (o : Obligation) → f ≡ Found o → Sound o
 
--- A5, Refusals: what a call comes to that is refused by a number
+-- A5, Refusals: what a call comes to that is refused by a number: no result, and no obligation
 abbrev pub refusedChange : ℕ → Change
 refusedChange k = record { answer = k; result = 0; obligation = noObligation }
 

@@ -45,7 +45,7 @@ samePart j k = eqb (partNumber j) (partNumber k)
 abbrev pub noParts : Parts
 noParts = partsBy (λ k. 0) 0
 
--- V1, C8, C10 and K3: q units move from outstanding to the part k
+-- V1, Deliver, C8 and C10, Close, and K3, Cancel: q units move from outstanding to the part k
 abbrev pub moved : Part → ℕ → Parts → Parts
 moved k q p = partsBy (λ j. pick (samePart j k) (partOf j p + q) (partOf j p)) (p .outstanding - q)
 

@@ -23,7 +23,10 @@ same-length c = search needs
 
 returns : tie.Need-returns
 unfolding closedOne
-returns c = rw (sym (c .before .before .before .before .before .before .before .is-due .ensures) ∙ c .before .before .before .before .before .before .if1 .taken, ← c .before .before .before .before .age-at .ensures) (c .before .before .close-due .ensures)
+returns c =
+    let aged = c .before .before .before .before in
+    let due = sym (aged .before .before .before .is-due .ensures) ∙ aged .before .before .if1 .taken in
+    rw due (rw (aged .age-at .ensures) at (c .before .before .close-due .ensures))
 
 returns-2 : tie.Need-returns-2
 unfolding closedOne

@@ -1,6 +1,6 @@
 -- `deliver` meets its contract.
 use Prim.Native.Nat.{ℕ}
-use mathlib.Core.Path.{_≡_, refl, sym, ap, _∙_}
+use mathlib.Core.Path.{_≡_, refl, ap, _∙_}
 use borrow.Author.Needs.{needs}
 use Rattle.ledger.specs.declared.Ledger.{Ledger}
 use Rattle.ledger.specs.Obligations.{cashOf, delivering as deliveringFrom}
@@ -28,8 +28,8 @@ fetch-requires : tie.Need-fetch-requires
 fetch-requires c κs = search needs
 
 deliver-change-requires : tie.Need-deliver-change-requires
-deliver-change-requires c κs o e =
-    let s = c .before .before in fetched-sound (s .args .self .ledger) (s .pre .ledger) (s .args .obligation) o (sym (c .fetch .ensures) ∙ e)
+deliver-change-requires c κs =
+    let s = c .before .before in fetched-sound (s .args .self .ledger) (s .pre .ledger) (s .args .obligation) (c .fetch .ensures)
 
 change-requires : tie.Need-change-requires
 unfolding deliverChange

@@ -13,7 +13,7 @@ use Rattle.refusals.proofs.Refusals.{refused-with, done-by}
 use Rattle.refusals.proofs.Offering.{Offered, offered, offers-few}
 use Rattle.refusals.proofs.Named.{fetch-passed, fetch-number}
 use Rattle.book.specs.declared.Done.{Done}
-use Rattle.book.specs.Book.{withLedger, todayOf, ageOf}
+use Rattle.book.specs.Book.{withLedger, todayOf}
 use Rattle.book.specs.Instructing.{doneRefused}
 use Rattle.book.specs.Buying.{offerRefusalsFor, offerNumber, offerDone, offer}
 use Rattle.book.proofs.Answers.{answered}
@@ -29,7 +29,7 @@ number : (c : tie.After-offer-number) →
     let a = start c .args in
     answer (fetchRefusals (offerRefusalsIn (a .supplier) (a .quantity) (a .price)) (fetched (a .self .ledger) (a .obligation)) (offerRefusalsFor (a .self) (a .price)))
     ≡ c .offer-number .result
-unfolding ageOf offerNumber
+unfolding offerNumber
 number c =
     let a = start c .args in
     sym (c .offer-number .ensures
@@ -53,7 +53,7 @@ fetch-requires c κs = search needs
 offer-number-requires : tie.Need-offer-number-requires
 offer-number-requires c κs =
     let s = c .before .before .before in
-    ((λ o e. fetched-sound (s .args .self .ledger) (s .pre .ledger) (s .args .obligation) o (sym (c .fetch .ensures) ∙ e)), s .pre .setup)
+    (fetched-sound (s .args .self .ledger) (s .pre .ledger) (s .args .obligation) (c .fetch .ensures), s .pre .setup)
 
 cast-t11 : tie.Need-cast-t11
 cast-t11 c = record { fits = omega (arith, passes (c .before) (c .if1 .taken) .0, start (c .before) .pre .ledger .few) }

@@ -1,30 +1,23 @@
 -- `offer_number` meets its contract.
 use mathlib.Core.Path.{refl, sym, ap, _∙_}
 use borrow.Author.Needs.{needs}
-use mathlib.Core.List.{List}
 use Rattle.calendar.specs.declared.ClearingDays.{ClearingDays}
-use Rattle.ledger.specs.declared.Obligation.{Obligation}
-use Rattle.refusals.specs.Refusals.{Refusal, answer}
+use Rattle.refusals.specs.Refusals.{answer}
 use Rattle.refusals.specs.Calls.{offerRefusalsIn, offerRefusalsOf}
 use Rattle.refusals.proofs.Offering.{offered}
 use Rattle.refusals.proofs.Named.{input-answer, absent-answer, found-answer}
-use Rattle.book.specs.Book.{ageBy}
-use Rattle.book.specs.Buying.{offerNumber}
+use Rattle.book.specs.Buying.{offerRefusalsBy, offerNumber}
 use Rattle.book.proofs.buying.offer_number.Statement.{statement}
 use Rattle.book.proofs.buying.offer_number.Tie as tie
-
--- the refusals on an obligation that was found
-abbrev on : tie.Start → Obligation → List Refusal
-on s o =
-    let a = s .args in
-    offerRefusalsOf (a .setup .terms) (a .today) (ageBy (a .setup) (a .today) o) (a .offers) o (a .price)
 
 offer-answer-requires : tie.Need-offer-answer-requires
 offer-answer-requires c κs = search needs
 
 returns : tie.Need-returns
 unfolding offerNumber
-returns c = let s = c .before .before in sym (input-answer _ (on s) (s .args .fetched) _ (sym (c .before .offer-answer .ensures)) (c .if1 .taken))
+returns c =
+    let a = c .before .before .args in
+    sym (input-answer _ (offerRefusalsBy (a .setup) (a .today) (a .offers) (a .price)) (a .fetched) _ (sym (c .before .offer-answer .ensures)) (c .if1 .taken))
 
 enum-known-fetched : tie.Need-enum-known-fetched
 enum-known-fetched c = search needs
