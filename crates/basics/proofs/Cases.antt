@@ -69,3 +69,8 @@ or-false {a} {b} = by a b
 pub and-true : (a b : Bool) → (a && b) ≡ true → (a ≡ true) × (b ≡ true)
 and-true true b e = (refl, e)
 and-true false b e = absurd (never e)
+
+-- "and" fails where its second test fails
+pub and-no : (t : Bool) → (t && false) ≡ false
+and-no true = refl
+and-no false = refl

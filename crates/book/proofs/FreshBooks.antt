@@ -1,12 +1,12 @@
 -- Open gives a valid book, accepted or refused.
-use Prim.Native.Nat.{ℕ, zero, suc, _≤_}
+use Prim.Native.Nat.{ℕ, _≤_}
 use native.Mathlib.Omega.{arith}
 use mathlib.Core.Path.{_≡_, refl, sym, ap}
 use mathlib.Core.Bool.{Bool, true, false, _||_, not}
 use mathlib.Core.List.{List, [], map}
 use lib.Dec.{ltb, leb, eqb}
-use lib.IntN.{pos, natAbs}
-use lib.ListN.{length, getD, replicate, length-map}
+use lib.IntN.{natAbs}
+use lib.ListN.{length, length-map}
 use borrow.Author.Tests.{ltb-false, leb-true, not-false}
 use Rattle.basics.proofs.Cases.{never, pick-case, and-true}
 use Rattle.basics.proofs.Places.{padded-length}
@@ -19,11 +19,7 @@ use Rattle.ledger.specs.Setup.{ValidTerms}
 use Rattle.ledger.proofs.Valid.{new-valid}
 use Rattle.book.specs.Book.{Valid}
 use Rattle.book.specs.Open.{termsOf, freshBook, refusedBook}
-
-zeros : (n m : ℕ) → getD (replicate n (pos 0)) m (pos 0) ≡ pos 0
-zeros zero m = refl
-zeros (suc n) zero = refl
-zeros (suc n) (suc m) = zeros n m
+use Rattle.book.proofs.Paid.{zero-at}
 
 -- the stages follow one another
 stages : (terms : ℕ) → ValidTerms (termsOf terms)
@@ -58,7 +54,7 @@ fresh-valid first ds terms taken most clears =
       ledger = new-valid;
       room = omega (arith, none-waiting);
       timely = λ n h. absurd (omega arith);
-      accounts-near = λ m. omega (arith, ap natAbs (zeros 32 m));
+      accounts-near = λ m. omega (arith, ap natAbs (zero-at 32 m));
     }
 
 pub refused-valid : Valid refusedBook

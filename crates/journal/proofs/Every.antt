@@ -10,7 +10,7 @@ use lib.ListN.{length, getD, set}
 use lib.Seq.{getD-take, length-take-le}
 use borrow.Author.Tests.{eq-eqb, ne-eqb, ltb-false, not-false}
 use Rattle.basics.specs.Choice.{pick}
-use Rattle.basics.proofs.Cases.{pick-case, or-false}
+use Rattle.basics.proofs.Cases.{pick-case, and-no, or-false}
 use Rattle.calendar.specs.declared.Day.{Day}
 use Rattle.offers.proofs.Holding.{listed-none, ranked-with}
 use Rattle.instructions.specs.declared.Leg.{Leg}
@@ -74,11 +74,7 @@ shift-moved j n q p k = part-moved k j q p ∙ rw (eq-eqb n n refl) (by (samePar
 
 -- it is of that obligation alone
 moved-alone : (j : Part) (n q m : ℕ) → (m ≡ n → ⊥) → (k : Part) → movesOne j n q k m ≡ 0
-moved-alone j n q m z k = rw (ne-eqb m n z) (by (samePart k j))
-  where
-    by : (t : Bool) → pick (t && false) q 0 ≡ 0
-    by true = refl
-    by false = refl
+moved-alone j n q m z k = rw (ne-eqb m n z, and-no (samePart k j)) refl
 
 -- a wish that is only recorded moves nothing
 wish-parts : (o : Obligation) (member : ℕ) → withWish member o .parts ≡ o .parts

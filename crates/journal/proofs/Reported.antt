@@ -13,7 +13,7 @@ use borrow.Author.Tests.{eq-eqb, ne-eqb}
 use Rattle.basics.specs.Choice.{pick}
 use Rattle.basics.specs.Lists.{total, Every}
 use Rattle.basics.specs.Lists.Every.{nobody, also}
-use Rattle.basics.proofs.Cases.{pick-case, last-or-below}
+use Rattle.basics.proofs.Cases.{pick-case, and-no, last-or-below}
 use Rattle.basics.proofs.Everywhere.{every-map, every-append}
 use Rattle.basics.proofs.Sums.{total-append}
 use Rattle.calendar.specs.Days.{ageAt}
@@ -60,10 +60,6 @@ own-none k n h nobody = refl
 own-none k n h (also {x} {xs} e es) = rw (ne-eqb (x .obligation) k (λ z. h (sym e ∙ z))) (own-none k n h es)
 
 -- what these lines say of obligation k its own lines say
-and-none : (t : Bool) → (t && false) ≡ false
-and-none true = refl
-and-none false = refl
-
 total-own : (part : Part) (k : ℕ) (ls : List Line) → total (quantityTo part k) ls ≡ total (quantityTo part k) (own k ls)
 unfolding total quantityTo
 total-own part k [] = refl
@@ -72,7 +68,7 @@ total-own part k (l ∷ ls) = by (eqb (l .obligation) k) refl (total-own part k 
     by : (t : Bool) → eqb (l .obligation) k ≡ t → total (quantityTo part k) ls ≡ total (quantityTo part k) (own k ls) →
         pick (isPart part (partOfKind (l .kind)) && eqb (l .obligation) k) (l .quantity) 0 + total (quantityTo part k) ls ≡ total (quantityTo part k) (pick t (l ∷ own k ls) (own k ls))
     by true e q = ap (λ (x : ℕ). pick (isPart part (partOfKind (l .kind)) && eqb (l .obligation) k) (l .quantity) 0 + x) q
-    by false e q = rw (e, and-none (isPart part (partOfKind (l .kind)))) (zero-add (total (quantityTo part k) ls) ∙ q)
+    by false e q = rw (e, and-no (isPart part (partOfKind (l .kind)))) (zero-add (total (quantityTo part k) ls) ∙ q)
 
 purchases-own : (k : ℕ) (ls : List Line) → purchasesIn k ls ≡ purchasesIn k (own k ls)
 unfolding purchasesIn
@@ -88,7 +84,7 @@ purchases-own k (l ∷ ls) = by (eqb (l .obligation) k) refl (purchases-own k ls
     by : (t : Bool) → eqb (l .obligation) k ≡ t → purchasesIn k ls ≡ purchasesIn k (own k ls) →
         pick (bought && eqb (l .obligation) k) (p ∷ purchasesIn k ls) (purchasesIn k ls) ≡ purchasesIn k (pick t (l ∷ own k ls) (own k ls))
     by true e q = ap (λ (ps : List Purchase). pick (bought && eqb (l .obligation) k) (p ∷ ps) ps) q
-    by false e q = rw (e, and-none bought) q
+    by false e q = rw (e, and-no bought) q
 
 -- ---- one obligation
 -- what a Close of one obligation moves to each part is what its lines say

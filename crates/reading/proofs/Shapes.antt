@@ -3,14 +3,14 @@ use Prim.Native.Nat.{ℕ, _+_, _-_, _≤_, _<_}
 use native.Mathlib.Omega.{arith}
 use mathlib.Core.Path.{_≡_, refl, sym}
 use mathlib.Core.Bool.{Bool, true, false, _&&_}
-use mathlib.Core.List.{List, []}
+use mathlib.Core.List.{List}
 use mathlib.Core.Option.{some}
 use lib.Dec.{eqb, leb}
 use lib.ListN.{length, getD, take}
 use lib.Seq.{length-take-le, getD-take}
 use borrow.Author.Tests.{eq-eqb, ne-eqb, le-leb, lt-leb, eqb-true, eqb-false, leb-true}
 use Rattle.basics.specs.Choice.{pick}
-use Rattle.basics.proofs.Cases.{and-true}
+use Rattle.basics.proofs.Cases.{and-true, and-no}
 use Rattle.reading.specs.Calls.{Naming, mostListed, mostNumbers, counted, listsOf, listable, shapeRight}
 use Rattle.reading.specs.Lines.{call, no-call, callWith, lineOf}
 use Rattle.reading.specs.Found.{shapedAs}
@@ -20,10 +20,6 @@ use Rattle.reading.specs.declared.Shape.{Shape}
 and-yes : (t : Bool) → (t && true) ≡ t
 and-yes true = refl
 and-yes false = refl
-
-pub and-no : (t : Bool) → (t && false) ≡ false
-and-no true = refl
-and-no false = refl
 
 -- what is left after the first numbers is another number exactly if all numbers together are as many as both
 eqb-less : (n k m : ℕ) → k ≤ n → eqb (n - k) m ≡ eqb n (k + m)

@@ -4,21 +4,21 @@ use native.Mathlib.Omega.{arith}
 use native.Mathlib.Numerals.{add-one}
 use mathlib.Core.Path.{_≡_, refl, sym, subst, ap, ap₂, _∙_}
 use mathlib.Core.Bool.{Bool, true, false, _&&_, not}
-use mathlib.Core.List.{List, [], _∷_, map}
+use mathlib.Core.List.{List, [], _∷_}
 use mathlib.Core.Option.{Option, none, some}
 use lib.Dec.{eqb, leb, ltb}
 use lib.ListN.{length, getD, drop, drop-of-length-le}
 use lib.Seq.{drop-cons}
 use types.Run.{OneOf}
-use borrow.Author.Tests.{eq-eqb, ne-eqb, eqb-true, leb-true, ltb-true, le-leb, lt-leb}
+use borrow.Author.Tests.{eq-eqb, ne-eqb, eqb-true, leb-true, ltb-true, le-leb, lt-leb, not-true}
 use Rattle.basics.specs.Choice.{pick}
 use Rattle.basics.specs.Lists.{Every}
 use Rattle.basics.specs.Lists.Every.{nobody, also}
-use Rattle.basics.proofs.Cases.{never, and-true, pick-case}
+use Rattle.basics.proofs.Cases.{never, and-true, and-no}
 use Rattle.basics.proofs.Everywhere.{every-map}
 use Rattle.reading.specs.Calls.{Naming, sameWord, namings, found, namingOf}
 use Rattle.reading.specs.Found.{onlyLetters, mostLetters, nameable, digitsIn, codeOf, namedOf}
-use Rattle.reading.proofs.Shapes.{and-no, fixedBy}
+use Rattle.reading.proofs.Shapes.{fixedBy}
 
 -- ---- words and their numbers
 -- a word is the same as itself, and as no other
@@ -224,10 +224,6 @@ absent n xs = passing (λ x. not (eqb (codeOf (x .word)) n)) xs
 distinct : List Naming → Bool
 distinct [] = true
 distinct (x ∷ xs) = absent (codeOf (x .word)) xs && distinct xs
-
-not-true : (t : Bool) → not t ≡ true → t ≡ false
-not-true true e = absurd (never e)
-not-true false e = refl
 
 -- so each entry is found by its own number
 found-own : (xs : List Naming) → distinct xs ≡ true → Every (λ x. foundBy (codeOf (x .word)) xs ≡ some x) xs

@@ -14,6 +14,7 @@ use Rattle.reading.specs.Calls.{shapeRight}
 use Rattle.reading.specs.Lines.{Understood}
 use Rattle.reading.proofs.Arguments.{days-listed, lent-listed, amounts-listed}
 use Rattle.lines.specs.declared.Taken.{Taken}
+use Rattle.settle.specs.declared.calls.Asked.{Asked}
 use Rattle.settle.specs.Asked.{nothingAsked, askedCall, askedOf, asks, noted, Listed}
 
 -- a line that asks nothing has no list
@@ -47,6 +48,15 @@ asked-line t line ns after is told e u =
     pick-case (λ a. askedOf is after ≡ a) (t .ends) _ _
     (λ f. ap₂ askedOf (sym told ∙ u .answer) (noted-line t line ns e u))
     (λ f. absurd (never (sym f ∙ e)))
+
+-- a line that has ended and asks nothing: what it asks, what is in the buffer for numbers, and that it has no list
+pub nothing-asked : (t : Taken) (line ns after : List ℕ) {l : Line} {r : Asked} (is : Line) → askedOf is after ≡ nothingAsked is
+    → r ≡ nothingAsked is → l ≡ is → t .ends ≡ true → Understood (take (t .size) line) ns after l
+    → (r ≡ asks t line ns) × ((after ≡ noted t line ns) × (Listed r after))
+nothing-asked t line ns after is nothing made told e u = (
+  made ∙ sym nothing ∙ asked-line t line ns after is told e u,
+  (noted-line t line ns e u, rw made (nothing-listed is after)),
+)
 
 -- a line that has not ended asks nothing, and the buffer for numbers stays as it was
 pub asked-not : (t : Taken) (line ns : List ℕ) → t .ends ≡ false

@@ -1,23 +1,15 @@
 -- `ask` meets its contract.
 use mathlib.Core.Path.{_≡_, refl, sym, _∙_}
-use mathlib.Core.Bool.{Bool, true, false, not}
+use mathlib.Core.Bool.{true, false}
 use native.Mathlib.Omega.{arith}
 use lib.Seq.{length-take-le}
 use borrow.Author.Needs.{needs}
-use Rattle.basics.proofs.Cases.{never}
+use borrow.Author.Tests.{not-true, not-false}
 use Rattle.reading.proofs.Arguments.{call-arguments}
 use Rattle.settle.specs.Asked.{askedOf}
-use Rattle.settle.proofs.Asking.{nothing-listed, call-listed, noted-line, asked-line, asked-not}
+use Rattle.settle.proofs.Asking.{nothing-listed, call-listed, noted-line, asked-line, nothing-asked, asked-not}
 use Rattle.settle.proofs.calls.ask.Statement.{statement}
 use Rattle.settle.proofs.calls.ask.Tie as tie
-
-not-true : (t : Bool) → not t ≡ true → t ≡ false
-not-true true e = absurd (never e)
-not-true false e = refl
-
-not-false : (t : Bool) → not t ≡ false → t ≡ true
-not-false true e = refl
-not-false false e = absurd (never (sym e))
 
 -- the line has not ended
 ends-not : (c : tie.Then1) → c .before .before .before .before .args .taken .ends ≡ false
@@ -64,22 +56,16 @@ unfolding askedOf
 returns-3 c =
     let read = c .before .before .before .before .before in
     let s = read .before .before .before .before .before .before .before in
-    let u = read .read-line .ensures in
-    let ended = ends (read .before .before .before) in (
-      c .asks-nothing2 .ensures ∙ asked-line (s .args .taken) (s .args .line .now) (s .args .n .now) (read .read-line .last .1 .0) _ (c .before .enum-told .given .1) ended u,
-      (noted-line (s .args .taken) (s .args .line .now) (s .args .n .now) ended u, rw (c .asks-nothing2 .ensures) (nothing-listed _ _)),
-    )
+    nothing-asked (s .args .taken) (s .args .line .now) (s .args .n .now) (read .read-line .last .1 .0) _ refl (c .asks-nothing2 .ensures)
+    (c .before .enum-told .given .1) (ends (read .before .before .before)) (read .read-line .ensures)
 
 returns-4 : tie.Need-returns-4
 unfolding askedOf
 returns-4 c =
     let read = c .before .before .before .before .before in
     let s = read .before .before .before .before .before .before .before in
-    let u = read .read-line .ensures in
-    let ended = ends (read .before .before .before) in (
-      c .asks-nothing3 .ensures ∙ asked-line (s .args .taken) (s .args .line .now) (s .args .n .now) (read .read-line .last .1 .0) _ (c .before .enum-told2 .given .1) ended u,
-      (noted-line (s .args .taken) (s .args .line .now) (s .args .n .now) ended u, rw (c .asks-nothing3 .ensures) (nothing-listed _ _)),
-    )
+    nothing-asked (s .args .taken) (s .args .line .now) (s .args .n .now) (read .read-line .last .1 .0) _ refl (c .asks-nothing3 .ensures)
+    (c .before .enum-told2 .given .1) (ends (read .before .before .before)) (read .read-line .ensures)
 
 pub ask-spec : {M : Type 1} → statement M
 ask-spec =
