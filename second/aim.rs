@@ -3,7 +3,9 @@
 use std::collections::BTreeSet;
 use std::io::{self, Write};
 
-use crate::book::{LegState, Obligation, CLOSE_WORDS, LAST_DAY, MAX_SETTLEMENT_DAY, MEMBERS};
+use crate::book::{
+    LegState, Obligation, CLOSE_WORDS, LAST_DAY, LINE_WORDS, MAX_SETTLEMENT_DAY, MEMBERS,
+};
 use crate::journal::{NAMES, RULES};
 use crate::{Cast, Generator};
 
@@ -82,6 +84,7 @@ fn limits(name: &str) -> &'static [u64] {
         "deliver" => &[63, 100_000],
         "offer" => &[63, 999, 100_000, 200_000],
         "close" => &[150_000, 100, 4_096, u64::MAX],
+        "again" => &[4_096, u64::MAX],
         "open" => &[65_535, 1],
         "status" => &[63],
         _ => &[31],
@@ -465,6 +468,21 @@ impl<W: Write> Generator<W> {
         vec![self.price(), self.rate(), words, self.fill()]
     }
 
+    /// A list that mostly is long enough. The short ones like to be long enough for the lines that
+    /// there are.
+    pub fn again_arguments(&mut self) -> Vec<u64> {
+        let enough = (self.player.book.lines_to_show() * LINE_WORDS) as u64;
+        let words = match self.random.below(20) {
+            0 => 1_151,
+            1 => enough,
+            2 => self.random.pick(&[0, 1, 6, enough + 1, 1_146, 1_150]),
+            3 | 4 => 4_096,
+            5 | 6 => self.random.between(1_153, 1_300),
+            _ => CLOSE_WORDS as u64,
+        };
+        vec![words, self.fill()]
+    }
+
     // ------------------------------------------------------------ months
 
     /// Collected amounts: in full, in part, nothing, a few cents, or too much.
@@ -531,6 +549,7 @@ impl<W: Write> Generator<W> {
             "offer" => self.offer_arguments(),
             "close" => self.close_arguments(),
             "month" => self.month_arguments(),
+            "again" => self.again_arguments(),
             "status" => vec![self.obligation() as u64],
             "rules" => vec![],
             _ => vec![self.party()],
@@ -556,9 +575,12 @@ impl<W: Write> Generator<W> {
     pub fn reading(&mut self) -> io::Result<()> {
         let empty = self.player.book.obligations.is_empty();
         let first = usize::from(empty && self.random.percent(70)) * 2;
-        let name = self
-            .random
-            .pick(&["status", "status", "account", "look"][first..]);
+        let name = if self.random.percent(6) {
+            "again"
+        } else {
+            self.random
+                .pick(&["status", "status", "account", "look"][first..])
+        };
         let arguments = self.arguments(name);
         self.bare_call(name, &arguments).map(|_| ())
     }
@@ -586,8 +608,13 @@ impl<W: Write> Generator<W> {
             return self.long_open();
         }
         let mut arguments = self.arguments(name);
-        if name == "close" && self.random.percent(40) {
-            arguments[2] = self
+        let length = match name {
+            "close" => Some(2),
+            "again" => Some(0),
+            _ => None,
+        };
+        if let Some(place) = length.filter(|_| self.random.percent(40)) {
+            arguments[place] = self
                 .random
                 .pick(&[0, 1, 31, 33, 1_151, 1_152, 4_096, 4_097]);
         }

@@ -1,7 +1,8 @@
 //! The settlement discipline book of one bond.
 //!
-//! "Rules" in the comments names a chapter of the rules and an item of it. Every call tests its
-//! refusals in rising order of their numbers and changes the book only when it is accepted.
+//! "Rules" in the comments names a chapter of the rules and an item of it, "P1" the change request
+//! of that number. Every call tests its refusals in rising order of their numbers and changes the
+//! book only when it is accepted.
 
 use std::cmp::Reverse;
 use std::ops::RangeInclusive;
@@ -298,18 +299,15 @@ pub struct Offer {
     pub price: u64,
 }
 
-/// The lent list of a Close, filled line by line.
-struct Lines<'a> {
-    list: &'a mut [u64],
-    count: usize,
-}
+/// Rules, Close: kind, obligation, quantity, cents, supplier, offer price.
+pub type Line = [u64; LINE_WORDS];
 
-impl Lines<'_> {
-    fn put(&mut self, line: [u64; LINE_WORDS]) {
-        let start = self.count * LINE_WORDS;
-        self.list[start..start + LINE_WORDS].copy_from_slice(&line);
-        self.count += 1;
-    }
+/// Writes lines at the front of a lent list, which has room for them, and returns their number. The
+/// words after them keep their values.
+fn write_lines(lines: &[Line], list: &mut [u64]) -> usize {
+    let words = lines.as_flattened();
+    list[..words.len()].copy_from_slice(words);
+    lines.len()
 }
 
 // ---------------------------------------------------------------- the book
@@ -325,6 +323,8 @@ pub struct Book {
     pub accounts: [i64; MEMBERS],
     /// Whether a Close was accepted since Open or the last accepted Month.
     pub closed_since_month: bool,
+    /// P1: the lines of the latest accepted Close, if there was one since Open.
+    pub last_close: Option<Vec<Line>>,
 }
 
 impl Book {
@@ -338,6 +338,7 @@ impl Book {
             offers: Vec::with_capacity(MAX_OFFERS),
             accounts: [0; MEMBERS],
             closed_since_month: false,
+            last_close: None,
         }
     }
 
@@ -512,7 +513,8 @@ impl Book {
         refuse_if(5, list.len() < CLOSE_WORDS)?;
         let next_day = self.calendar.next_after(self.today).ok_or(20)?;
 
-        let mut lines = Lines { list, count: 0 };
+        let mut lines = self.last_close.take().unwrap_or_default();
+        lines.clear();
         for number in 0..self.obligations.len() {
             let obligation = &self.obligations[number];
             if obligation.day <= self.today && obligation.outstanding() > 0 {
@@ -522,11 +524,25 @@ impl Book {
         self.offers.clear();
         self.today = next_day;
         self.closed_since_month = true;
-        Ok(lines.count)
+        let count = write_lines(&lines, list);
+        self.last_close = Some(lines);
+        Ok(count)
+    }
+
+    /// P1, Again: the number of lines of the latest accepted Close, written as that Close wrote them.
+    pub fn again(&self, list: &mut [u64]) -> Result<usize, Refusal> {
+        refuse_if(5, list.len() < CLOSE_WORDS)?;
+        let lines = self.last_close.as_ref().ok_or(22)?;
+        Ok(write_lines(lines, list))
+    }
+
+    /// How many lines an Again would show; 0 where it would be refused by 22.
+    pub fn lines_to_show(&self) -> usize {
+        self.last_close.as_ref().map_or(0, Vec::len)
     }
 
     /// Rules, Close, the four items, for an obligation with J reached and something outstanding.
-    fn close_obligation(&mut self, number: usize, price: u64, rate: u64, lines: &mut Lines) {
+    fn close_obligation(&mut self, number: usize, price: u64, rate: u64, lines: &mut Vec<Line>) {
         let age = self.age(&self.obligations[number]);
         let terms = self.terms;
         let obligation = &mut self.obligations[number];
@@ -537,11 +553,11 @@ impl Book {
         let cents = penalty(outstanding, price, rate);
         self.accounts[obligation.seller as usize] -= cents as i64;
         self.accounts[obligation.buyer as usize] += cents as i64;
-        lines.put([PENALTY, named, outstanding, cents, 0, 0]);
+        lines.push([PENALTY, named, outstanding, cents, 0, 0]);
 
         // Notice.
         if age == terms.notice {
-            lines.put([NOTICE, named, outstanding, 0, 0, 0]);
+            lines.push([NOTICE, named, outstanding, 0, 0, 0]);
         }
 
         // Rules, Buy-in: the price that the cap of the offers goes by.
@@ -554,7 +570,7 @@ impl Book {
             for offer in auction_order(&self.offers, number) {
                 let (quantity, charge) = obligation.buy_in(offer);
                 if quantity > 0 {
-                    lines.put([BOUGHT, named, quantity, charge, offer.supplier, offer.price]);
+                    lines.push([BOUGHT, named, quantity, charge, offer.supplier, offer.price]);
                 }
             }
         }
@@ -563,7 +579,7 @@ impl Book {
         let left = obligation.outstanding();
         if age == terms.last && left > 0 {
             obligation.compensated += left;
-            lines.put([COMPENSATED, named, left, compensation(left, price), 0, 0]);
+            lines.push([COMPENSATED, named, left, compensation(left, price), 0, 0]);
         }
     }
 
@@ -655,19 +671,61 @@ mod tests {
         plus_1 - 1
     }
 
+    /// The lines at the front of a list of 77s, whose other words were left as they were.
+    fn lines_in(list: &[u64], count: usize) -> Vec<Line> {
+        let (lines, rest) = list.split_at(count * LINE_WORDS);
+        assert!(rest.iter().all(|&word| word == 77));
+        lines.as_chunks().0.to_vec()
+    }
+
     /// A Close, as the lines that it reports.
-    fn close(book: &mut Book, price: u64, rate: u64) -> Vec<[u64; 6]> {
+    fn close(book: &mut Book, price: u64, rate: u64) -> Vec<Line> {
         let mut list = vec![77; CLOSE_WORDS];
         let count = book.close(price, rate, &mut list).unwrap();
-        assert!(list[count * LINE_WORDS..].iter().all(|&word| word == 77));
-        let (lines, _) = list[..count * LINE_WORDS].as_chunks();
-        lines.to_vec()
+        lines_in(&list, count)
+    }
+
+    /// An Again with a list of so many words, as the lines that it shows; a refused one shows none.
+    /// As it takes `&Book`, it can't change the book.
+    fn again_in(book: &Book, words: usize) -> Result<Vec<Line>, Refusal> {
+        let mut list = vec![77; words];
+        let answer = book.again(&mut list);
+        let lines = lines_in(&list, answer.unwrap_or(0));
+        answer.map(|_| lines)
+    }
+
+    fn again(book: &Book) -> Result<Vec<Line>, Refusal> {
+        again_in(book, CLOSE_WORDS)
+    }
+
+    /// A book of terms 1 on its second day, and the lines of its one Close.
+    fn closed_book() -> (Book, Vec<Line>) {
+        let mut book = book(1);
+        oblige(&mut book, 1_000, 1_000, 2);
+        oblige(&mut book, 3, 1_000, 2);
+        let lines = close(&mut book, 100_000, 10);
+        assert_eq!(lines, [[1, 0, 1_000, 1_000, 0, 0], [1, 1, 3, 3, 0, 0]]);
+        (book, lines)
     }
 
     fn close_times(book: &mut Book, times: u64, price: u64) {
         for _ in 0..times {
             close(book, price, 0);
         }
+    }
+
+    /// A book after the Close of most lines, and these lines.
+    fn full_close() -> (Book, Vec<Line>) {
+        let mut book = book(1);
+        for _ in 0..64 {
+            oblige(&mut book, 2, 1_000, 2);
+        }
+        close_times(&mut book, 13, 100_000);
+        for number in 0..64 {
+            book.offer(number, number, 1, 100_000).unwrap();
+        }
+        let lines = close(&mut book, 100_000, 0);
+        (book, lines)
     }
 
     fn match_of(delivering: u64, receiving: u64, delivering_first: bool) -> u64 {
@@ -973,15 +1031,126 @@ mod tests {
 
     #[test]
     fn a_full_close_has_192_lines() {
+        assert_eq!(full_close().1.len(), 192);
+    }
+
+    #[test]
+    fn again_shows_the_lines_of_the_latest_close() {
+        let (mut book, lines) = closed_book();
+        for words in [CLOSE_WORDS, CLOSE_WORDS, CLOSE_WORDS + 1, 4_096] {
+            assert_eq!(again_in(&book, words), Ok(lines.clone()));
+        }
+        book.deliver(0, 1_000).unwrap();
+        let fewer = close(&mut book, 90_000, 100);
+        assert_eq!(fewer, [[1, 1, 3, 27, 0, 0]]);
+        assert_eq!(again(&book), Ok(fewer));
+    }
+
+    #[test]
+    fn again_needs_a_whole_list() {
+        let (mut book, _) = closed_book();
+        for words in [0, 1, 2 * LINE_WORDS, CLOSE_WORDS - 1] {
+            assert_eq!(again_in(&book, words), Err(5));
+        }
+        book.deliver(0, 1_000).unwrap();
+        book.deliver(1, 3).unwrap();
+        assert!(close(&mut book, 100_000, 10).is_empty());
+        assert_eq!(again_in(&book, 0), Err(5));
+    }
+
+    #[test]
+    fn again_is_refused_by_22_before_a_close() {
         let mut book = book(1);
-        for _ in 0..64 {
-            oblige(&mut book, 2, 1_000, 2);
+        assert_eq!(again(&book), Err(22));
+        assert_eq!(again_in(&book, 4_096), Err(22));
+        assert_eq!(again_in(&book, CLOSE_WORDS - 1), Err(5)); // before 22
+        oblige(&mut book, 5, 1_000, 2);
+        assert_eq!(month(&mut book, &[]), Err(21));
+        assert_eq!(again(&book), Err(22));
+    }
+
+    #[test]
+    fn a_close_of_no_lines_is_a_close() {
+        let mut empty = book(1);
+        assert!(close(&mut empty, 100_000, 10).is_empty());
+        assert_eq!(again(&empty), Ok(vec![]));
+        // Nothing is left of the lines of an earlier Close.
+        let (mut book, _) = closed_book();
+        book.deliver(0, 1_000).unwrap();
+        book.deliver(1, 3).unwrap();
+        assert!(close(&mut book, 100_000, 10).is_empty());
+        assert_eq!(again(&book), Ok(vec![]));
+    }
+
+    #[test]
+    fn a_month_leaves_the_lines() {
+        let (mut book, lines) = closed_book();
+        month(&mut book, &[(0, 1_003)]).unwrap();
+        assert_eq!(again(&book), Ok(lines.clone()));
+        assert_eq!(month(&mut book, &[]), Err(21)); // Again is no Close
+        assert_eq!(again(&book), Ok(lines));
+    }
+
+    #[test]
+    fn a_refused_close_leaves_the_lines() {
+        let (mut book, lines) = closed_book();
+        let mut list = [77; CLOSE_WORDS];
+        for (answer, price, words) in [(3, 0, CLOSE_WORDS), (5, 1, CLOSE_WORDS - 1)] {
+            assert_eq!(book.close(price, 0, &mut list[..words]), Err(answer));
+            assert_eq!(again(&book), Ok(lines.clone()));
         }
-        close_times(&mut book, 13, 100_000);
-        for number in 0..64 {
-            book.offer(number, number, 1, 100_000).unwrap();
+        // Nothing is open so late that a Close is refused by 20, but the book can be brought there.
+        book.today = LAST_DAY;
+        assert_eq!(book.close(1, 0, &mut list), Err(20));
+        assert_eq!(again(&book), Ok(lines));
+    }
+
+    #[test]
+    fn a_refused_close_is_none() {
+        let mut book = Book::open(65_533, 0, &[]).unwrap();
+        let mut list = [77; CLOSE_WORDS];
+        for (answer, price, words) in [
+            (3, 0, CLOSE_WORDS),
+            (5, 1, CLOSE_WORDS - 1),
+            (20, 1, CLOSE_WORDS),
+        ] {
+            assert_eq!(book.close(price, 0, &mut list[..words]), Err(answer));
+            assert_eq!(again(&book), Err(22));
         }
-        assert_eq!(close(&mut book, 100_000, 0).len(), 192);
+    }
+
+    #[test]
+    fn other_calls_leave_the_lines() {
+        let (mut book, _) = closed_book();
+        close_times(&mut book, 10, 100_000);
+        let lines = again(&book).unwrap();
+        assert_eq!(lines, [[1, 0, 1_000, 0, 0, 0], [1, 1, 3, 0, 0, 0]]);
+        let today = book.today;
+        book.offer(0, 7, 5, 100_000).unwrap();
+        assert_eq!(again(&book), Ok(lines.clone()));
+        book.deliver(1, 3).unwrap();
+        assert_eq!(again(&book), Ok(lines.clone()));
+        book.enter(4, 5, 0, 1, 1, today).unwrap();
+        assert_eq!(again(&book), Ok(lines.clone()));
+        book.withdraw(4, 4).unwrap();
+        assert_eq!(again(&book), Ok(lines.clone()));
+        book.cancel(0, 0).unwrap();
+        book.cancel(0, 1).unwrap();
+        assert_eq!(again(&book), Ok(lines));
+    }
+
+    #[test]
+    fn all_192_lines_come_back() {
+        let (book, lines) = full_close();
+        assert_eq!(lines.len(), 192);
+        assert_eq!(again(&book), Ok(lines.clone()));
+        assert_eq!(again_in(&book, 4_096), Ok(lines));
+    }
+
+    #[test]
+    fn a_new_book_has_had_no_close() {
+        assert_eq!(again(&book(0)), Err(22));
+        assert_eq!(again(&Book::of_refused_open()), Err(22));
     }
 
     #[test]

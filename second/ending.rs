@@ -248,15 +248,30 @@ mod tests {
         }
     }
 
+    /// Whether a line of any of the journals has the property.
+    fn any_line(holds: impl Fn(&[u8]) -> bool) -> bool {
+        (0..SEEDS).any(|seed| {
+            let (text, _, _) = journal(seed, CallSet::all());
+            text.split(|&byte| byte == b'\n').any(&holds)
+        })
+    }
+
     #[test]
     fn rules_are_asked_rightly_and_wrongly() {
-        let (mut text, _, _) = journal(0, CallSet::all());
-        for seed in 1..SEEDS {
-            text.extend(journal(seed, CallSet::all()).0);
-        }
         for line in [&b"rules"[..], b"rules 0", b"rules ", b"Rules"] {
-            let mut lines = text.split(|&byte| byte == b'\n');
-            assert!(lines.any(|written| written == line), "{line:?}");
+            assert!(any_line(|written| written == line), "{line:?}");
+        }
+    }
+
+    #[test]
+    fn again_has_lists_of_all_lengths() {
+        for start in [
+            &b"again 1151 "[..],
+            b"again 1152 ",
+            b"again 4096 ",
+            b"again 4097 ",
+        ] {
+            assert!(any_line(|written| written.starts_with(start)), "{start:?}");
         }
     }
 }

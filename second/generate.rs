@@ -136,6 +136,10 @@ impl<W: Write> Generator<W> {
 
     /// Writes the journal. A journal of no calls is an empty text.
     fn write_all(&mut self, ending: Ending) -> io::Result<()> {
+        // The book before the first Open is a book too: it can have Closes, and show them again.
+        if self.random.percent(50) {
+            self.life_with_jams()?;
+        }
         let mut idle = 0;
         while !self.is_done() && idle < IDLE_SCENARIOS {
             let before = self.written;

@@ -4,6 +4,7 @@ use std::fmt::Write;
 
 use crate::book::Refusal;
 use crate::journal::{Call, CallSet, NAMES, RULES};
+use crate::traps::Traps;
 
 /// The answer numbers that each call can give, in the order of the names.
 const ANSWERS: [&[Refusal]; NAMES.len()] = [
@@ -18,9 +19,11 @@ const ANSWERS: [&[Refusal]; NAMES.len()] = [
     &[0, 13],
     &[0, 1],
     &[0, 1],
+    &[0, 5, 22],
     &[0],
 ];
 const CLOSE: usize = 6;
+const AGAIN: usize = 11;
 
 /// What a torn last line says, though it is no call.
 #[derive(Clone, Copy)]
@@ -36,6 +39,7 @@ const TORN: [&str; 4] = ["call", "no-call", "too-long", "comment"];
 
 pub struct Hits {
     answers: [[u64; 32]; NAMES.len()],
+    traps: Traps,
     malformed: u64,
     torn: [u64; TORN.len()],
     whole: u64,
@@ -46,6 +50,7 @@ impl Hits {
     pub fn new() -> Self {
         Hits {
             answers: [[0; 32]; NAMES.len()],
+            traps: Traps::default(),
             malformed: 0,
             torn: [0; TORN.len()],
             whole: 0,
@@ -53,8 +58,11 @@ impl Hits {
         }
     }
 
-    pub fn call(&mut self, call: &Call, answer: Refusal) {
-        self.answers[index(call)][usize::from(answer)] += 1;
+    /// A call that was played. `lines` is the number of lines of the latest accepted Close then.
+    pub fn call(&mut self, call: &Call, answer: Refusal, lines: usize) {
+        let place = index(call);
+        self.answers[place][usize::from(answer)] += 1;
+        self.traps.call(place, call, answer, lines);
     }
 
     /// A whole line that is no call; the torn ones are counted apart.
@@ -73,7 +81,8 @@ impl Hits {
     }
 
     /// One line for each pair of a call and an answer it can give, also for those not reached,
-    /// and for the lines that are no calls and the ways in which a journal can end.
+    /// for the kinds of a Close's lines and the traps of Again, and for the lines that are no calls
+    /// and the ways in which a journal can end.
     pub fn table(&self, calls: &CallSet, kinds: &[u64; 5]) -> String {
         let mut table = String::new();
         let mut row =
@@ -91,6 +100,11 @@ impl Hits {
         if calls.has(CLOSE) {
             for (kind, count) in kinds.iter().enumerate().skip(1) {
                 row(format_args!("kind {kind} {count}"));
+            }
+        }
+        if calls.has(AGAIN) {
+            for (trap, count) in self.traps.rows() {
+                row(format_args!("trap {trap} {count}"));
             }
         }
         row(format_args!("malformed {}", self.malformed));
@@ -112,11 +126,12 @@ fn index(call: &Call) -> usize {
         Call::Cancel { .. } => 3,
         Call::Deliver { .. } => 4,
         Call::Offer { .. } => 5,
-        Call::Close { .. } => 6,
+        Call::Close { .. } => CLOSE,
         Call::Month { .. } => 7,
         Call::Status { .. } => 8,
         Call::Account { .. } => 9,
         Call::Look { .. } => 10,
+        Call::Again { .. } => AGAIN,
         Call::Rules => RULES,
     }
 }
@@ -136,8 +151,8 @@ mod tests {
     fn what_is_met_is_counted() {
         let mut hits = Hits::new();
         assert_eq!(met(&hits, &CallSet::all()), [""; 0]);
-        hits.call(&Call::Rules, 0);
-        hits.call(&Call::Rules, 0);
+        hits.call(&Call::Rules, 0, 0);
+        hits.call(&Call::Rules, 0, 0);
         hits.malformed();
         for says in [Torn::Call, Torn::NoCall, Torn::TooLong, Torn::Comment] {
             hits.torn(says);
@@ -163,8 +178,22 @@ mod tests {
     #[test]
     fn what_is_not_met_is_listed() {
         let table = Hits::new().table(&CallSet::all(), &[0; 5]);
-        for row in ["rules 0 0", "kind 4 0", "torn comment 0", "end 0"] {
+        for row in [
+            "again 22 0",
+            "rules 0 0",
+            "kind 4 0",
+            "trap again-192-lines 0",
+            "torn comment 0",
+            "end 0",
+        ] {
             assert!(table.lines().any(|line| line == row), "{row}");
         }
+    }
+
+    #[test]
+    fn without_again_there_are_no_traps() {
+        let calls = CallSet::listed("open,close,rules").unwrap();
+        let table = Hits::new().table(&calls, &[0; 5]);
+        assert!(!table.contains("trap") && !table.contains("again"));
     }
 }

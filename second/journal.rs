@@ -6,12 +6,12 @@ const MAX_LIST: u64 = 4_096;
 pub const MAX_LINE: usize = 65_536;
 
 /// The names of all calls; a call is known by its place here.
-pub const NAMES: [&str; 12] = [
+pub const NAMES: [&str; 13] = [
     "open", "enter", "withdraw", "cancel", "deliver", "offer", "close", "month", "status",
-    "account", "look", "rules",
+    "account", "look", "again", "rules",
 ];
 /// The place of `rules`, which is no call on the book: those stand before it.
-pub const RULES: usize = 11;
+pub const RULES: usize = 12;
 
 /// The calls that exist.
 #[derive(Clone, Copy)]
@@ -90,6 +90,10 @@ pub enum Call<'a> {
     },
     Look {
         member: u64,
+    },
+    Again {
+        words: usize,
+        fill: u64,
     },
     Rules,
 }
@@ -170,6 +174,10 @@ fn with_arguments<'a>(name: &str, numbers: &'a [u64]) -> Option<Call<'a>> {
         ("status", &[obligation]) => Call::Status { obligation },
         ("account", &[member]) => Call::Account { member },
         ("look", &[member]) => Call::Look { member },
+        ("again", &[n, fill]) => Call::Again {
+            words: list_length(n)?,
+            fill,
+        },
         ("rules", &[]) => Call::Rules,
         _ => return None,
     })
@@ -207,6 +215,10 @@ mod tests {
         assert_eq!(
             parsed("month 1 9 0 18446744073709551615").unwrap(),
             "Month { collected: [9], places: 0, fill: 18446744073709551615 }"
+        );
+        assert_eq!(
+            parsed("again 4096 7").unwrap(),
+            "Again { words: 4096, fill: 7 }"
         );
         assert_eq!(parsed("rules").unwrap(), "Rules");
         assert_eq!(NAMES[RULES], "rules");
@@ -247,6 +259,11 @@ mod tests {
             "month 1 32 7",
             "close 1 1 4097 0",
             "month 0 4097 0",
+            "again",
+            "again 1152",
+            "again 1152 0 0",
+            "again 4097 0",
+            "Again 1152 0",
             "end",
             "end 1",
             "? line 1",
@@ -263,7 +280,6 @@ mod tests {
     #[test]
     fn calls_of_later_editions_are_none() {
         assert_no_calls(&[
-            "again 1152 0",
             "target 2000 2000 6 0",
             "rate 2 10",
             "rate 2 10 10",

@@ -6,6 +6,7 @@ mod hits;
 mod journal;
 mod lines;
 mod play;
+mod traps;
 
 use std::env;
 use std::fs::File;
@@ -81,7 +82,8 @@ impl<R: Read> Run<R> {
         }
         if let Some(call) = parse(line, &self.calls, &mut self.numbers) {
             let answer = self.player.play(call, out);
-            self.hits.call(&call, answer);
+            let lines = self.player.book.lines_to_show();
+            self.hits.call(&call, answer, lines);
         } else {
             put_line(out, b"? line ", self.journal.number);
             self.hits.malformed();
@@ -258,9 +260,9 @@ mod tests {
     fn the_end_counts_every_line() {
         assert_eq!(answers(b""), "end 0\n");
         assert_eq!(answers(b"\n"), "end 1\n");
-        assert_eq!(answers(b"#\n\nrules\nx\n"), "0 0\n? line 4\nend 4\n");
-        assert_eq!(answers(b"rules\n#"), "0 0\nend 2\n");
-        assert_eq!(answers(b"rules\n\nx"), "0 0\n? line 3\nend 3\n");
+        assert_eq!(answers(b"#\n\nrules\nx\n"), "0 1\n? line 4\nend 4\n");
+        assert_eq!(answers(b"rules\n#"), "0 1\nend 2\n");
+        assert_eq!(answers(b"rules\n\nx"), "0 1\n? line 3\nend 3\n");
     }
 
     #[test]
@@ -291,6 +293,15 @@ mod tests {
         assert_eq!(out, b"? line 1\nend 1\n");
     }
 
+    /// The rows of the table of hits that were met.
+    fn met(journal: &[u8]) -> Vec<String> {
+        let mut run = run_of(journal);
+        run.play_all(&mut Vec::new()).unwrap();
+        let table = run.hits.table(&run.calls, &run.player.kinds);
+        let rows = table.lines().filter(|row| !row.ends_with(" 0"));
+        rows.map(str::to_string).collect()
+    }
+
     #[test]
     fn the_kinds_of_torn_lines_are_counted() {
         let long = b"9".repeat(MAX_LINE + 1);
@@ -303,12 +314,112 @@ mod tests {
             (b"", &["end 1"]),
         ];
         for (journal, rows) in journals {
-            let mut run = run_of(journal);
-            run.play_all(&mut Vec::new()).unwrap();
-            let table = run.hits.table(&run.calls, &run.player.kinds);
-            let met = table.lines().filter(|row| !row.ends_with(" 0"));
-            assert_eq!(met.collect::<Vec<_>>(), rows);
+            assert_eq!(met(journal), rows);
         }
+    }
+
+    /// Checks which traps a journal meets, each of them once.
+    fn assert_traps(journal: &str, traps: &[&str]) {
+        let rows = met(journal.as_bytes());
+        let found: Vec<&str> = rows
+            .iter()
+            .filter_map(|row| row.strip_prefix("trap again-")?.strip_suffix(" 1"))
+            .collect();
+        assert_eq!(found, traps, "{journal}");
+    }
+
+    #[test]
+    fn the_traps_before_a_close_are_counted() {
+        let traps: [(&str, &[&str]); 7] = [
+            (
+                "again 1152 0",
+                &["22-no-close", "22-before-open", "22-of-1152"],
+            ),
+            (
+                "close 0 0 1152 0\nclose 1 1 1151 0\nagain 4096 0",
+                &[
+                    "22-before-open",
+                    "22-after-close-3",
+                    "22-after-close-5",
+                    "22-of-4096",
+                ],
+            ),
+            (
+                "open 65533 1 0\nclose 1 1 1152 0\nagain 2000 0",
+                &["22-after-close-20"],
+            ),
+            (
+                "close 1 1 1152 0\nopen 2 1 0\nagain 2000 0",
+                &["22-no-close", "22-after-open"],
+            ),
+            (
+                "close 1 1 1152 0\nopen 2 2 0\nagain 2000 0",
+                &["22-no-close", "22-after-refused-open"],
+            ),
+            ("again 1151 0", &["5-of-1151-not-22"]),
+            ("again 0 0", &[]),
+        ];
+        for (journal, traps) in traps {
+            assert_traps(&format!("{journal}\n"), traps);
+        }
+    }
+
+    #[test]
+    fn the_traps_after_a_close_of_no_lines_are_counted() {
+        let traps: [(&str, &[&str]); 3] = [
+            ("again 0 0", &["5-of-0-no-lines"]),
+            ("again 1151 0", &["5-of-1151"]),
+            ("again 1152 0", &["before-open", "no-lines"]),
+        ];
+        for (journal, traps) in traps {
+            assert_traps(&format!("close 1 1 1152 0\n{journal}\n"), traps);
+        }
+        assert_traps(
+            "open 65532 1 0\nclose 1 1 1152 0\nclose 1 1 1152 0\nagain 1152 0\n",
+            &["no-lines", "after-close-20"],
+        );
+    }
+
+    #[test]
+    fn the_traps_after_a_close_with_lines_are_counted() {
+        let month = format!("month 32{} 32 0", " 0".repeat(32));
+        let traps: [(&str, &[&str]); 15] = [
+            ("again 11 0", &[]),
+            ("again 12 0", &["5-enough"]),
+            ("again 1151 0", &["5-of-1151", "5-enough"]),
+            ("again 1153 0", &[]),
+            ("again 1152 0", &["of-1152"]),
+            ("again 4096 0", &["of-4096"]),
+            ("again 1152 0\nagain 1153 0", &["of-1152", "after-again"]),
+            ("again 1152 0\nlook 0\nagain 1153 0", &["of-1152"]),
+            ("close 0 1 1152 0\nagain 1153 0", &["after-close-3"]),
+            ("close 1 1 1151 0\nagain 1153 0", &["after-close-5"]),
+            (&(month + "\nagain 1153 0"), &["after-month"]),
+            (
+                "enter 5 6 0 3 1 3\nwithdraw 4 5\nagain 1153 0",
+                &["after-enter", "after-withdraw"],
+            ),
+            (
+                "cancel 0 0\ndeliver 1 9\ndeliver 1 4\nagain 1153 0",
+                &["after-cancel", "after-deliver"],
+            ),
+            (
+                "deliver 0 3\nclose 1 1 1152 0\nagain 1153 0",
+                &["fewer-lines"],
+            ),
+            (
+                "deliver 0 3\ndeliver 1 4\nclose 1 1 1152 0\nagain 1153 0",
+                &["no-lines", "no-lines-after-some"],
+            ),
+        ];
+        for (journal, traps) in traps {
+            assert_traps(&format!("{LATE}{journal}\n"), traps);
+        }
+        let closes = "close 1 1 1152 0\n".repeat(10);
+        assert_traps(
+            &format!("{LATE}{closes}offer 0 7 1 1\nagain 1153 0\n"),
+            &["after-offer"],
+        );
     }
 
     #[test]
@@ -326,17 +437,17 @@ mod tests {
 
     #[test]
     fn the_end_is_compared() {
-        let missing = difference(b"rules\n", "0 0\n").unwrap();
+        let missing = difference(b"rules\n", "0 1\n").unwrap();
         assert_eq!(
             missing,
             "line 1: (the end of the journal)\nexpected: end 1\ngiven:    (nothing)\n\
             The last line of the answers is missing.\n"
         );
         assert!(difference(b"", "").unwrap().contains("is missing"));
-        assert!(difference(b"rules\n", "0 0\nend 1")
+        assert!(difference(b"rules\n", "0 1\nend 1")
             .unwrap()
             .ends_with("given:    end 1 (and no line feed)\n"));
-        for given in ["0 0\nend 0\n", "0 0\nend 2\n", "0 0\nend 1\n\n", "end 1\n"] {
+        for given in ["0 1\nend 0\n", "0 1\nend 2\n", "0 1\nend 1\n\n", "end 1\n"] {
             assert!(difference(b"rules\n", given).is_some(), "{given:?}");
         }
     }
@@ -358,6 +469,23 @@ mod tests {
             .starts_with("line 8: look 0 (and no line feed)\nexpected: ? line 8\n"));
     }
 
+    #[test]
+    fn the_lines_of_an_again_are_compared() {
+        let journal = format!("{LATE}again 1152 0\n");
+        let expected = answers(journal.as_bytes());
+        let lines = "0 2\n  1 0 3 0 0 0\n  1 1 4 0 0 0\n  kept 1140\n";
+        assert!(expected.ends_with(&format!("{lines}{lines}end 7\n")));
+        for (right, wrong) in [
+            ("0 2\n", "0 1\n"),
+            ("  1 1 4", "  1 1 3"),
+            ("kept 1140", "kept 1139"),
+        ] {
+            let (start, end) = expected.rsplit_once(right).unwrap();
+            let shown = difference(journal.as_bytes(), &format!("{start}{wrong}{end}")).unwrap();
+            assert!(shown.starts_with("line 7: again 1152 0\n"), "{shown}");
+        }
+    }
+
     /// Gives its bytes, then fails.
     struct Broken<'a>(&'a [u8]);
 
@@ -375,7 +503,7 @@ mod tests {
         let mut run = Run::new(Broken(b"rules\nx\nopen 9 1 0"), CallSet::all());
         let mut out = Vec::new();
         assert!(run.play_all(&mut out).is_err());
-        assert_eq!(out, b"0 0\n? line 2\n");
+        assert_eq!(out, b"0 1\n? line 2\n");
         assert_eq!(run.player.book.today, 2);
     }
 

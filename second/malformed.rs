@@ -31,9 +31,8 @@ const NO_RULES: [&str; 14] = [
     "rules 0", "rules 0", "rules 1", "rules ", "rules ", "rules  0", " rules", "rules\r",
     "rules\t", "rules\0", "Rules", "RULES", "rule", "rules#",
 ];
-/// Calls of later editions, which the base does not know.
-const LATER: [&str; 9] = [
-    "again 1152 0",
+/// Calls of later editions, which this one does not know.
+const LATER: [&str; 8] = [
     "target 2000 2000 6 0",
     "rate 2 10",
     "rate 2 10 10",

@@ -4,12 +4,12 @@ use crate::book::{Book, Refusal, LINE_WORDS};
 use crate::journal::Call;
 
 /// The latest change request in the rules; 0 is the base.
-const EDITION: u64 = 0;
+const EDITION: u64 = 1;
 
 /// A book and the lists that are lent to its calls.
 pub struct Player {
     pub book: Book,
-    /// How many lines of each kind were reported; kinds begin with 1.
+    /// How many lines of each kind the Closes reported; kinds begin with 1.
     pub kinds: [u64; 5],
     lent: Vec<u64>,
 }
@@ -84,6 +84,7 @@ impl Player {
             Call::Status { obligation } => put_results(out, book.status(obligation)),
             Call::Account { member } => put_account(out, book.account(member)),
             Call::Look { member } => put_results(out, book.look(member).map(|found| [found])),
+            Call::Again { words, fill } => self.again(words, fill, out),
             Call::Rules => put_results(out, Ok([EDITION])),
         }
     }
@@ -103,20 +104,17 @@ impl Player {
     ) -> Refusal {
         self.lend(words, fill);
         let closed = self.book.close(price, rate, &mut self.lent);
-        let count = closed.unwrap_or(0);
-        let answer = put_results(out, closed.map(|count| [count as u64]));
-        let (lines, rest) = self.lent.split_at(count * LINE_WORDS);
-        for line in lines.chunks(LINE_WORDS) {
+        let told = closed.unwrap_or(0) * LINE_WORDS;
+        for line in self.lent[..told].chunks(LINE_WORDS) {
             self.kinds[line[0] as usize] += 1;
-            out.push(b' ');
-            put_words(out, line);
-            out.push(b'\n');
         }
-        let kept = rest.iter().filter(|&&word| word == fill).count();
-        out.extend_from_slice(b"  kept");
-        put_words(out, &[kept as u64]);
-        out.push(b'\n');
-        answer
+        put_lines(out, closed, &self.lent, fill)
+    }
+
+    fn again(&mut self, words: usize, fill: u64, out: &mut Vec<u8>) -> Refusal {
+        self.lend(words, fill);
+        let shown = self.book.again(&mut self.lent);
+        put_lines(out, shown, &self.lent, fill)
     }
 
     fn month(&mut self, collected: &[u64], places: usize, fill: u64, out: &mut Vec<u8>) -> Refusal {
@@ -141,6 +139,23 @@ fn put_results<const N: usize>(out: &mut Vec<u8>, results: Result<[u64; N], Refu
     };
     put_number(out, answer.into());
     put_words(out, &words);
+    out.push(b'\n');
+    answer
+}
+
+/// Writes the answer of a Close or an Again: the number of lines, the lines at the front of the list
+/// that was lent, and how many words after them are still the fill.
+fn put_lines(out: &mut Vec<u8>, count: Result<usize, Refusal>, list: &[u64], fill: u64) -> Refusal {
+    let answer = put_results(out, count.map(|count| [count as u64]));
+    let (lines, rest) = list.split_at(count.unwrap_or(0) * LINE_WORDS);
+    for line in lines.chunks(LINE_WORDS) {
+        out.push(b' ');
+        put_words(out, line);
+        out.push(b'\n');
+    }
+    let kept = rest.iter().filter(|&&word| word == fill).count();
+    out.extend_from_slice(b"  kept");
+    put_words(out, &[kept as u64]);
     out.push(b'\n');
     answer
 }
@@ -198,18 +213,20 @@ mod tests {
         let journal =
             "open 2 1 1 9\nenter 0 1 0 3 1000 2\nenter 1 0 1 3 1000 2\nenter 1 0 1 3 1000 2\n\
             withdraw 2 1\ncancel 0 0\ndeliver 0 1\nclose 100000 100 1160 9\nstatus 0\naccount 0\n\
-            account 1\naccount 2\nlook 0\nlook 1\n";
+            account 1\naccount 2\nlook 0\nlook 1\nagain 1152 3\n";
         let expected = "0\n0 0 0\n0 1 1\n0 2 0\n0\n0 0\n0 333\n0 1\n  1 0 2 20 0 0\n  kept 1154\n\
-            0 3 1 0 0 0 2\n0 -20\n0 20\n0 0\n0 1\n0 0\n";
+            0 3 1 0 0 0 2\n0 -20\n0 20\n0 0\n0 1\n0 0\n0 1\n  1 0 2 20 0 0\n  kept 1146\n";
         assert_eq!(answers(journal), expected);
     }
 
     #[test]
     fn each_call_refused() {
         let journal = "enter 0 0 0 1 1 2\nwithdraw 0 0\ncancel 0 0\ndeliver 0 0\noffer 0 0 1 1\n\
-            close 1 1 3 0\nmonth 1 5 2 8\nmonth 0 0 8\nstatus 0\naccount 32\nlook 32\nopen 2 2 0\n";
+            close 1 1 3 0\nmonth 1 5 2 8\nmonth 0 0 8\nstatus 0\naccount 32\nlook 32\nagain 1152 7\n\
+            open 2 2 0\n";
         let expected =
-            "1 0 0\n13\n13 0\n2 0\n13\n5 0\n  kept 3\n5 8 8\n5\n13 0 0 0 0 0 0\n1 0\n1 0\n1\n";
+            "1 0 0\n13\n13 0\n2 0\n13\n5 0\n  kept 3\n5 8 8\n5\n13 0 0 0 0 0 0\n1 0\n1 0\n\
+            22 0\n  kept 1152\n1\n";
         assert_eq!(answers(journal), expected);
     }
 
@@ -217,6 +234,38 @@ mod tests {
     fn a_refused_open_ends_the_book_before_it() {
         let journal = "open 9 1 0\nenter 0 1 0 3 1000 9\nopen 9 1 1 9\nenter 0 1 0 3 1000 2\n";
         assert_eq!(answers(journal), "0\n0 0 0\n11\n0 0 0\n");
+    }
+
+    #[test]
+    fn an_open_ends_the_lines_of_the_close_before_it() {
+        let (close, shown) = (
+            "close 100000 10 1152 7\nagain 1152 0\n",
+            "0 0\n  kept 1152\n",
+        );
+        for (open, answer) in [("open 2 1 0", 0), ("open 2 2 0", 1), ("open 0 1 0", 11)] {
+            let journal = format!("{close}{open}\nagain 1152 0\n{close}");
+            let expected = format!("{shown}{shown}{answer}\n22 0\n  kept 1152\n{shown}{shown}");
+            assert_eq!(answers(&journal), expected);
+        }
+    }
+
+    #[test]
+    fn again_is_told_as_a_close_and_counts_no_kinds() {
+        let mut player = Player::new();
+        let mut play = |line: &str| {
+            let (mut numbers, mut out) = (Vec::new(), Vec::new());
+            let call = parse(line.as_bytes(), &CallSet::all(), &mut numbers);
+            player.play(call.expect("a call"), &mut out);
+            (String::from_utf8(out).expect("plain ASCII"), player.kinds)
+        };
+        play("enter 0 1 0 3 1000 2");
+        play("enter 1 0 1 3 1000 2");
+        let closed = play("close 100000 100 1153 9");
+        let shown = play("again 1153 8");
+        assert_eq!(closed, shown);
+        assert_eq!(closed.0, "0 1\n  1 0 3 30 0 0\n  kept 1147\n");
+        assert_eq!(closed.1, [0, 1, 0, 0, 0]);
+        assert_eq!(play("again 1151 8").0, "5 0\n  kept 1151\n");
     }
 
     #[test]
@@ -229,7 +278,7 @@ mod tests {
         }
         let (before, mut out) = (player.book.clone(), Vec::new());
         assert_eq!(player.play(Call::Rules, &mut out), 0);
-        assert_eq!(out, b"0 0\n");
+        assert_eq!(out, b"0 1\n");
         assert_eq!(player.book, before);
     }
 
@@ -237,7 +286,7 @@ mod tests {
     fn rules_may_stand_before_the_first_open() {
         assert_eq!(
             answers("rules\nenter 0 1 0 3 1000 2\nrules\n"),
-            "0 0\n0 0 0\n0 0\n"
+            "0 1\n0 0 0\n0 1\n"
         );
     }
 

@@ -10,7 +10,7 @@ impl<W: Write> Generator<W> {
     pub fn any_scenario(&mut self) -> io::Result<()> {
         self.readings = self.random.pick(&[5, 20, 40, 60]);
         self.noise = self.random.pick(&[0, 2, 5, 10, 25]);
-        match self.random.below(100) {
+        match self.random.below(106) {
             0..=18 => self.mixed_life(),
             19..=34 => self.stages(),
             35..=46 => self.auctions(),
@@ -25,7 +25,8 @@ impl<W: Write> Generator<W> {
             92 | 93 => self.heavy_crowd(),
             94 | 95 => self.many_legs(),
             96 | 97 => self.long_life(),
-            _ => self.scrawl(),
+            98 | 99 => self.scrawl(),
+            _ => self.jams(),
         }
     }
 
@@ -41,7 +42,7 @@ impl<W: Write> Generator<W> {
             self.open_any()?;
         }
         // A kind stands in the urn as often as it is to be drawn.
-        let kinds = NAMES[1..8].iter();
+        let kinds = NAMES[1..8].iter().chain(&["again"]);
         let urn: Vec<&str> = kinds
             .flat_map(|&name| vec![name; self.random.pick(&[1, 2, 4, 10])])
             .collect();
@@ -317,6 +318,9 @@ impl<W: Write> Generator<W> {
                 }
                 _ => self.spoiled("open")?,
             }
+            if self.random.percent(30) {
+                self.plausible("again")?;
+            }
             let today = self.player.book.today;
             self.enter_pair(today)?;
             if self.random.percent(30) {
@@ -327,8 +331,8 @@ impl<W: Write> Generator<W> {
         Ok(())
     }
 
-    /// The book that a refused Open returns, and some life in it.
-    fn refused_open(&mut self) -> io::Result<()> {
+    /// A refused Open, by any of its numbers.
+    fn open_wrongly(&mut self) -> io::Result<()> {
         let day = self.first_day();
         let weekend = day / 7 * 7 + self.random.below(2);
         let refused: [&[u64]; 9] = [
@@ -343,7 +347,12 @@ impl<W: Write> Generator<W> {
             &[day + 70_000 / 7 * 7, 1, 0],
         ];
         let arguments = self.random.pick(&refused).to_vec();
-        self.call("open", &arguments)?;
+        self.call("open", &arguments).map(|_| ())
+    }
+
+    /// The book that a refused Open returns, and some life in it.
+    fn refused_open(&mut self) -> io::Result<()> {
+        self.open_wrongly()?;
         let days = self.random.between(0, 36);
         self.enter_pair(2)?;
         self.enter_pair(3)?;
@@ -363,6 +372,9 @@ impl<W: Write> Generator<W> {
         self.open_book(first, terms)?;
         for _ in 0..self.random.between(2, 45) {
             self.close_day()?;
+            if self.random.percent(10) {
+                self.plausible("again")?;
+            }
             if self.random.percent(15) {
                 self.plausible("month")?;
             }
@@ -453,8 +465,10 @@ impl<W: Write> Generator<W> {
             .calendar
             .clearing_days_between(self.player.book.today, day)
             + last;
+        // Early and large offers take lines away from the last day, so that many crowds have none.
+        let (early, large) = (self.random.pick(&[0, 0, 30]), self.random.pick(&[0, 10]));
         for left in (1..=until).rev() {
-            if left < 5 && self.random.percent(30) {
+            if left < 5 && self.random.percent(early) {
                 self.offers_of_the_day(6)?;
             }
             self.close_day()?;
@@ -466,7 +480,11 @@ impl<W: Write> Generator<W> {
             } else {
                 self.random.below(64)
             };
-            let most = if self.random.percent(90) { 1 } else { quantity };
+            let most = if self.random.percent(large) {
+                quantity
+            } else {
+                1
+            };
             let offer = [
                 number,
                 number * 15,
@@ -477,7 +495,9 @@ impl<W: Write> Generator<W> {
         }
         self.plausible("offer")?;
         self.close_day()?;
+        self.jam()?;
         self.close_day()?;
+        self.jam()?;
         self.plausible("month")?;
         self.plausible("month")
     }
@@ -554,6 +574,87 @@ impl<W: Write> Generator<W> {
             if day % 21 == 0 {
                 self.plausible("month")?;
             }
+        }
+        Ok(())
+    }
+
+    /// The printer jams in one book after another.
+    fn jams(&mut self) -> io::Result<()> {
+        (self.readings, self.noise) = (self.random.pick(&[2, 20]), self.random.pick(&[0, 2]));
+        for _ in 0..self.random.between(2, 4) {
+            self.open_for_jams()?;
+            self.life_with_jams()?;
+        }
+        Ok(())
+    }
+
+    /// A new book, accepted or refused, at times one that can have few Closes or none.
+    fn open_for_jams(&mut self) -> io::Result<()> {
+        match self.random.below(10) {
+            0..=4 => self.open_any(),
+            5..=7 => self.open_wrongly(),
+            _ => {
+                let first = LAST_DAY - self.random.between(2, 4);
+                self.open_book(first, 1)
+            }
+        }
+    }
+
+    /// No Close, refused Closes, then a few accepted ones with what must leave their lines alone.
+    pub fn life_with_jams(&mut self) -> io::Result<()> {
+        self.jam()?;
+        for _ in 0..self.random.below(3) {
+            self.refused_close()?;
+            self.jam()?;
+        }
+        for delay in 0..self.random.below(4) {
+            let day = self.day_after(delay);
+            self.enter_pair(day)?;
+        }
+        for _ in 0..self.random.below(6) {
+            self.close_day()?;
+            self.jam()?;
+            for _ in 0..self.random.below(4) {
+                self.anything_but_a_close()?;
+                self.jam()?;
+            }
+        }
+        Ok(())
+    }
+
+    fn anything_but_a_close(&mut self) -> io::Result<()> {
+        match self.random.below(8) {
+            0 | 1 => self.refused_close(),
+            2 | 3 => self.month_in_full(),
+            4 => self.empty_one(),
+            5 => {
+                let day = self.settlement_day();
+                self.enter_pair(day)
+            }
+            _ => {
+                let name = self
+                    .random
+                    .pick(&["enter", "withdraw", "cancel", "deliver"]);
+                self.plausible(name)
+            }
+        }
+    }
+
+    /// A Close that is refused by 3 or by 5.
+    fn refused_close(&mut self) -> io::Result<()> {
+        let mut arguments = self.close_arguments();
+        match self.random.below(4) {
+            0 => arguments[0] = self.random.pick(&[0, 150_001]),
+            1 => arguments[1] = 101,
+            _ => arguments[2] = self.random.pick(&[0, 6, 1_151]),
+        }
+        self.call("close", &arguments).map(|_| ())
+    }
+
+    /// The lines of the latest Close once more, at times twice in a row.
+    fn jam(&mut self) -> io::Result<()> {
+        for _ in 0..self.random.pick(&[1, 1, 2]) {
+            self.plausible("again")?;
         }
         Ok(())
     }

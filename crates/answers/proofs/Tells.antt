@@ -54,7 +54,7 @@ unfolding balanceTold
 balance-tells answer cents words =
     record { few = omega arith; whole = refl; lends = omega arith; within = omega arith; lines = omega arith }
 
--- so can the answer to a Close whose lines stand within the words that were lent
+-- so can the answer to a Close or an Again whose lines stand within the words that were lent
 pub closed-tells : (answer lines lent fill : ℕ) (words : List ℕ)
     → lent ≤ mostLent → lent ≤ length words → 6 * lines ≤ lent → Tellable (closedTold answer lines lent fill) words
 unfolding closedTold
@@ -73,7 +73,7 @@ unfolding answerText textIn numbersText numbersTold
 numbers-shown shown words line h = ap answerOf (sets-front (replicate mostShown 0) shown h)
 
 module _ (a : Answer) (line : ℕ) (words : List ℕ) (t : Tellable a words) where
-  -- the answer to a Close fits its room
+  -- the answer to a Close or an Again fits its room
   closed-most : length (closedText a words) ≤ mostAnswer
   unfolding closedText
   closed-most =

@@ -41,11 +41,11 @@ numbersText a = answerOf (take (a .count) (a .numbers))
 unfoldable pub balanceText : Answer → List ℕ
 balanceText a = digitsOf (getD (a .numbers) 0 0) ++ space ∷ signedOf (a .cents) ++ lineFeed ∷ []
 
--- a line of a Close: two spaces, six words, and a line feed
+-- a line of a Close or an Again: two spaces, six words, and a line feed
 unfoldable pub sixText : List ℕ → List ℕ
 sixText six = space ∷ space ∷ answerOf six
 
--- the first lines of a Close, by their number
+-- the first lines of a Close or an Again, by their number
 unfoldable pub linesText : List ℕ → ℕ → List ℕ
 linesText words zero = []
 linesText words (suc k) = linesText words k ++ sixText (take 6 (drop (6 * k) words))
@@ -59,7 +59,7 @@ keptOf fill (w ∷ ws) = pick (eqb w fill) 1 0 + keptOf fill ws
 unfoldable pub keptText : ℕ → List ℕ
 keptText n = labelled (space ∷ space ∷ 107 ∷ 101 ∷ 112 ∷ 116 ∷ space ∷ []) n
 
--- the answer to a Close: answer number and number of lines, the lines, and how many words after them are kept
+-- the answer to a Close or an Again: answer number and number of lines, the lines, and how many words after them are kept
 unfoldable pub closedText : Answer → List ℕ → List ℕ
 closedText a words =
     numbersText a

@@ -43,8 +43,8 @@ numbersTold shown = told Form.Numbers shown
 unfoldable pub balanceTold : ℕ → ℤ → Answer
 balanceTold answer cents = toldWith Form.Balance (answer ∷ []) cents 0 0 0
 
--- the answer to a Close: an answer number, how many lines there are, how many words were lent, and with what value they
--- were filled
+-- the answer to a Close or an Again: an answer number, how many lines there are, how many words were lent, and with what
+-- value they were filled
 unfoldable pub closedTold : ℕ → ℕ → ℕ → ℕ → Answer
 closedTold answer lines lent fill = toldWith Form.Closed (answer ∷ lines ∷ []) (pos 0) lines lent fill
 

@@ -147,7 +147,7 @@ impl Answer {
         end + 1
     }
 
-    // Writes the answer to a Close: its numbers, its lines, and how many words are kept.
+    // Writes the answer to a Close or an Again: its numbers, its lines, and how many words are kept.
     fn tell_closed(self, words: &[u64], out: &mut [u8], at: usize) -> usize
         requires { ⌜ (Tellable self (now words)) × (at + mostAnswer ≤ length (now out)) ⌝ }
         ensures { λ r. ⌜ Wrote (closedText self (now (words .entry))) (now (out .entry)) at (now (out .exit)) r ⌝ }
@@ -190,7 +190,7 @@ impl Answer {
     }
 }
 
-// Writes a line of a Close: six words, with two spaces in front.
+// Writes a line of a Close or an Again: six words, with two spaces in front.
 fn tell_six(words: &[u64], from: usize, out: &mut [u8], at: usize) -> usize
     requires { ⌜ (from + 6 ≤ length (now words)) × (at + 129 ≤ length (now out)) ⌝ }
     ensures { λ r. ⌜ Wrote (sixText (take 6 (drop from (now (words .entry))))) (now (out .entry)) at (now (out .exit)) r ⌝ }
@@ -200,7 +200,7 @@ fn tell_six(words: &[u64], from: usize, out: &mut [u8], at: usize) -> usize
     writing::write_answer(out, at + 2, &words[from..from + 6])
 }
 
-// Writes the lines of a Close.
+// Writes the lines of a Close or an Again.
 fn tell_lines(words: &[u64], count: usize, out: &mut [u8], at: usize) -> usize
     requires { ⌜ (6 * count ≤ length (now words)) × (at + 129 * count ≤ length (now out)) ⌝ }
     ensures { λ r. ⌜ Wrote (linesText (now (words .entry)) count) (now (out .entry)) at (now (out .exit)) r ⌝ }

@@ -1,10 +1,11 @@
 -- Laws on tables by an index.
 use Prim.Native.Nat.{ℕ, zero, suc, _+_, _-_, _<_}
 use native.Mathlib.Nat.{zero-add}
+use native.Mathlib.Numerals.{add-one}
 use native.Mathlib.Omega.{arith}
 use mathlib.Core.Path.{_≡_, refl, sym, ap, _∙_}
 use mathlib.Core.Logic.{⊎-elim}
-use mathlib.Core.List.{List}
+use mathlib.Core.List.{List, [], _∷_, _++_}
 use lib.ListN.{length, getD, set}
 use lib.Seq.{getD-set-same, getD-set-other, ext-getD}
 use Rattle.basics.specs.Lists.{tableFrom, table}
@@ -26,6 +27,26 @@ tableFrom-at k (suc n) f (suc i) d h = tableFrom-at (suc k) n f i d (omega arith
 
 pub table-at : {A : Type 0} (n : ℕ) (f : ℕ → A) (i : ℕ) (d : A) → i < n → getD (table n f) i d ≡ f i
 table-at n f i d h = tableFrom-at 0 n f i d h ∙ ap f (zero-add i)
+
+tableFrom-next : {A : Type 0} (k n : ℕ) (f : ℕ → A) → tableFrom (suc k) n f ≡ tableFrom k n (λ i. f (suc i))
+unfolding tableFrom
+tableFrom-next k zero f = refl
+tableFrom-next k (suc n) f = ap (λ xs. f (suc k) ∷ xs) (tableFrom-next (suc k) n f)
+
+-- a table with one element more has f 0 at its front
+pub table-more : {A : Type 0} (n : ℕ) (f : ℕ → A) → table (suc n) f ≡ f 0 ∷ table n (λ i. f (suc i))
+unfolding tableFrom
+table-more n f = ap (λ xs. f 0 ∷ xs) (tableFrom-next 0 n f)
+
+tableFrom-last : {A : Type 0} (k n : ℕ) (f : ℕ → A) → tableFrom k (suc n) f ≡ tableFrom k n f ++ f (k + n) ∷ []
+unfolding tableFrom
+tableFrom-last k zero f = ap (λ (i : ℕ). f i ∷ []) (omega arith)
+tableFrom-last k (suc n) f =
+    ap (λ xs. f k ∷ xs) (tableFrom-last (suc k) n f ∙ ap (λ (i : ℕ). tableFrom (suc k) n f ++ f i ∷ []) (omega arith))
+
+-- and it has f n at its end
+pub table-last : {A : Type 0} (n : ℕ) (f : ℕ → A) → table (n + 1) f ≡ table n f ++ f n ∷ []
+table-last n f = rw (add-one n) (tableFrom-last 0 n f ∙ ap (λ (i : ℕ). table n f ++ f i ∷ []) (zero-add n))
 
 -- a list that has f i at each index i is the table of f
 pub is-table : {A : Type 0} (n : ℕ) (f : ℕ → A) (xs : List A) (d : A) → length xs ≡ n → ((i : ℕ) → i < n → getD xs i d ≡ f i) → xs ≡ table n f

@@ -1,12 +1,14 @@
--- What a Close leaves: a valid book, of which each reached obligation is a day older, and lines that fit the list.
+-- What a Close and an Again leave: a valid book, and lines that fit the list. After a Close each obligation whose J has
+-- come is a day older.
 use Prim.Native.Nat.{ℕ, _*_, _≤_, _<_}
 use native.Mathlib.Omega.{arith}
-use mathlib.Core.Path.{_≡_, refl, sym, ap, subst, _∙_}
+use mathlib.Core.Path.{_≡_, refl, sym, ap, subst⁻¹, _∙_}
 use mathlib.Core.Bool.{true}
 use mathlib.Core.List.{List}
 use mathlib.Core.Logic.{⊎-elim}
 use lib.ListN.{length}
 use borrow.Author.Tests.{le-leb, lt-ltb}
+use Rattle.basics.specs.Lists.{Every}
 use Rattle.basics.proofs.Cases.{below-or-not}
 use Rattle.calendar.specs.declared.Day.{Day}
 use Rattle.calendar.specs.declared.NextDay.{NextDay}
@@ -24,20 +26,26 @@ use Rattle.ledger.proofs.Valid.{no-offers-valid}
 use Rattle.offers.specs.Held.{listed as listedOffers}
 use Rattle.closing.specs.declared.DayEnd.{DayEnd}
 use Rattle.closing.specs.Close.{closedAt, closedLedger}
-use Rattle.closing.specs.Lines.{written}
+use Rattle.closing.specs.Lines.{mostLines, written, linesRead, SoundLine}
 use Rattle.closing.specs.Asked.{Closable, ClosedAs}
 use Rattle.closing.proofs.Parts.{Goes, closed-goes, last-none}
 use Rattle.closing.proofs.Together.{rows-length, rows-closed, lines-most}
 use Rattle.closing.proofs.Fines.{Charged, charged-up-to}
+use Rattle.closing.proofs.Lines.{lines-back, written-fits}
+use Rattle.closing.proofs.Sizes.{lines-sound}
+use Rattle.reprint.specs.declared.LastClose.{LastClose}
+use Rattle.reprint.specs.Kept.{keptFrom, Keepable}
+use Rattle.reprint.proofs.Keeping.{kept-valid}
 use Rattle.refusals.specs.Refusals.{answer}
 use Rattle.refusals.specs.Calls.{closeRefusals, closeRefusalsIn, fewestWords}
 use Rattle.refusals.proofs.Refusals.{done-by, refused-with}
-use Rattle.refusals.proofs.Ending.{Given, close-given, close-at}
+use Rattle.refusals.proofs.Ending.{Given, close-given, close-at, again-given}
 use Rattle.book.specs.declared.Book.{Book}
 use Rattle.book.specs.declared.Closed.{Closed}
-use Rattle.book.specs.Book.{withDay, closedOf, todayOf, ageOf, Valid}
+use Rattle.book.specs.Book.{withDay, withLast, closedOf, todayOf, ageOf, Valid}
 use Rattle.book.specs.Close.{nextDay, dayEnd, linesOf, closedDay, closedBook, closeRefused, closeNumber, closeDone, closeBy, close, closeWords}
-use Rattle.book.proofs.Outcomes.{close-case}
+use Rattle.book.specs.Again.{again}
+use Rattle.book.proofs.Outcomes.{close-case, again-case}
 
 module _ (b : Book) (v : Valid b) (price rate : ℕ) (p : price ≤ mostClosePrice) (r : rate ≤ mostRate) where
   abbrev d : DayEnd
@@ -79,6 +87,10 @@ module _ (b : Book) (v : Valid b) (price rate : ℕ) (p : price ≤ mostClosePri
     accounts = record { size = charged .size ∙ v .ledger .accounts .size; even = charged .even ∙ v .ledger .accounts .even };
   }
 
+  -- there are no more lines than the book can keep
+  pub lines-few : length (linesOf b price rate) ≤ mostLines
+  lines-few = lines-most d (l .obligations) (l .offers) (v .setup .terms) (v .ledger .offers .few) (l .count) (v .ledger .few)
+
   module _ (next : Day) (q : nextDay b ≡ At next) where
     abbrev first : FirstAfter (closedOf b) (todayOf b .0) (next .0)
     first = next-at (closedOf b) (todayOf b) next q .0
@@ -118,6 +130,7 @@ module _ (b : Book) (v : Valid b) (price rate : ℕ) (p : price ≤ mostClosePri
       day = record { today-clears = first .clears; today-most = next-at (closedOf b) (todayOf b) next q .1 };
       legs = v .legs;
       ledger = closed-ledger-valid;
+      last = kept-valid (linesOf b price rate) lines-few;
       room = v .room;
       timely = λ n h. record { clears = rw (after-goes n h .later .deal) (v .timely n h .clears); young = still-young n h };
       accounts-near = λ m. omega (arith, charged .near m, v .accounts-near m, v .ledger .few, first .later);
@@ -135,10 +148,10 @@ refused-end b v price rate n ws e z =
     by Never e = ap (closeRefused b) (sym e)
     by (At next) e = refused-with n (closeRefusals price rate (length ws) (At next)) _ (closeRefused b) e z
 
--- done, with the ledger that the Close of the book's ledger gave
+-- done, with the ledger that the Close of the book's ledger gave, and with the lines that were then read from the list
 module _ (b : Book) (v : Valid b) (price rate : ℕ) (ws : List ℕ) (e : answer (closeRefusalsIn price rate (length ws)) ≡ 0) (next : Day) (q : nextDay b ≡ At next) where
-  abbrev ended : Ledger → Book
-  ended l = withDay (closedDay next) l b
+  abbrev ended : Ledger → LastClose → Book
+  ended l k = withLast k (withDay (closedDay next) l b)
 
   given : Given price rate (length ws)
   given = close-given price rate (length ws) e
@@ -151,18 +164,33 @@ module _ (b : Book) (v : Valid b) (price rate : ℕ) (ws : List ℕ) (e : answer
   unfolding close closeBy
   close-done = rw q (done-by (closeRefusals price rate (length ws) (At next)) (closeDone b price rate next) (closeRefused b) (close-at price rate (length ws) (At next) next refl e))
 
-  pub done-end : (l : Ledger) (count : ℕ) (ws' : List ℕ) → ClosedAs (closedLedger (dayEnd b price rate) (b .ledger)) (linesOf b price rate) l count ws ws' →
-      (record { answer = 0; count = count; book = ended l } ≡ close b price rate (length ws)) × ((ws' ≡ closeWords b price rate ws) × Valid (ended l))
-  unfolding closeWords
-  done-end l count ws' c =
-      let same : _≡_ {A = Closed} (record { answer = 0; count = count; book = ended l }) (closeDone b price rate next) =
-      λ i. record { answer = 0; count = c .counted i; book = ended (c .result i) } in (
-        same ∙ close-done,
-        (
-          c .words ∙ done-by (closeRefusals price rate (length ws) (nextDay b)) (written (linesOf b price rate) ws) (λ k. ws) (close-at price rate (length ws) (nextDay b) next q e),
-          subst (λ (x : Ledger). Valid (ended x)) (sym (c .result)) (closed-valid b v price rate (given .price-most) (given .rate-most) next q),
-        ),
-      )
+  module _ (l : Ledger) (count : ℕ) (ws' : List ℕ) (c : ClosedAs (closedLedger (dayEnd b price rate) (b .ledger)) (linesOf b price rate) l count ws ws') where
+    -- the lines of the Close are read from its list
+    lines-told : linesRead count ws' ≡ linesOf b price rate
+    lines-told = (λ i. linesRead (c .counted i) (c .words i)) ∙ lines-back (linesOf b price rate) ws
+
+    -- what keeping them asks
+    pub done-keepable : Keepable count ws'
+    done-keepable = record {
+      few = omega (arith, c .counted, lines-few b v price rate (given .price-most) (given .rate-most));
+      long = omega (arith, c .counted, ap (λ (us : List ℕ). length us) (c .words), written-fits (linesOf b price rate) ws);
+      sound = subst⁻¹ (Every SoundLine) lines-told (lines-sound (dayEnd b price rate) (b .ledger) ws done-closable);
+    }
+
+    pub done-end : (k : LastClose) → k ≡ keptFrom (linesRead count ws') →
+        (record { answer = 0; count = count; book = ended l k } ≡ close b price rate (length ws)) × ((ws' ≡ closeWords b price rate ws) × Valid (ended l k))
+    unfolding closeWords
+    done-end k f =
+        let kept = f ∙ ap keptFrom lines-told in
+        let book : ended l k ≡ closedBook b price rate next = λ i. ended (c .result i) (kept i) in
+        let same : _≡_ {A = Closed} (record { answer = 0; count = count; book = ended l k }) (closeDone b price rate next) =
+        λ i. record { answer = 0; count = c .counted i; book = book i } in (
+          same ∙ close-done,
+          (
+            c .words ∙ done-by (closeRefusals price rate (length ws) (nextDay b)) (written (linesOf b price rate) ws) (λ k. ws) (close-at price rate (length ws) (nextDay b) next q e),
+            subst⁻¹ Valid book (closed-valid b v price rate (given .price-most) (given .rate-most) next q),
+          ),
+        )
 
 -- a Close keeps the book valid
 pub close-valid : (b : Book) → Valid b → (price rate : ℕ) (ws : List ℕ) → Valid (close b price rate (length ws) .book)
@@ -175,8 +203,16 @@ pub close-fits : (b : Book) (price rate : ℕ) (ws : List ℕ) → Valid b → 6
 close-fits b price rate ws v =
     close-case b (λ (x : Closed) (us : List ℕ). 6 * x .count ≤ length ws) price rate ws (λ k z. omega arith)
     (λ next q e.
-    omega (
-      arith,
-      lines-most (dayEnd b price rate) (b .ledger .obligations) (b .ledger .offers) (v .setup .terms) (v .ledger .offers .few) (b .ledger .count) (v .ledger .few),
-      close-given price rate (length ws) e .long,
-    ))
+    let g = close-given price rate (length ws) e in
+    omega (arith, lines-few b v price rate (g .price-most) (g .rate-most), g .long))
+
+-- ---- Again
+-- an Again hands back the book as it was, so it keeps it valid
+pub again-valid : (b : Book) → Valid b → (ws : List ℕ) → Valid (again b (length ws) .book)
+again-valid b v ws = again-case b (λ (x : Closed) (us : List ℕ). Valid (x .book)) ws (λ k z. v) (λ e. v)
+
+-- the lines fit the list
+pub again-fits : (b : Book) (ws : List ℕ) → Valid b → 6 * again b (length ws) .count ≤ length ws
+again-fits b ws v =
+    again-case b (λ (x : Closed) (us : List ℕ). 6 * x .count ≤ length ws) ws (λ k z. omega arith)
+    (λ e. omega (arith, v .last .few, again-given _ _ e .0))

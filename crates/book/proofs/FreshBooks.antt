@@ -15,6 +15,7 @@ use Rattle.calendar.specs.Closed.{day, lastDay, mostClosed, risesFrom, closedRe
 use Rattle.calendar.specs.Days.{clearing}
 use Rattle.calendar.proofs.Closed.{given-rises}
 use Rattle.instructions.proofs.Keeping.{none-valid, none-waiting}
+use Rattle.reprint.proofs.Keeping.{kept-valid}
 use Rattle.ledger.specs.Setup.{ValidTerms}
 use Rattle.ledger.proofs.Valid.{new-valid}
 use Rattle.book.specs.Book.{Valid}
@@ -52,6 +53,7 @@ fresh-valid first ds terms taken most clears =
       day = record { today-clears = clears; today-most = most };
       legs = none-valid;
       ledger = new-valid;
+      last = kept-valid [] (omega arith);
       room = omega (arith, none-waiting);
       timely = λ n h. absurd (omega arith);
       accounts-near = λ m. omega (arith, ap natAbs (zero-at 32 m));

@@ -50,6 +50,7 @@ module _ (b : Book) (v : Valid b) where
     day = v .day;
     legs = g;
     ledger = k;
+    last = v .last;
     room = r;
     timely = λ n h. record { clears = t n h .clears; young = t n h .young };
     accounts-near = λ m. rw a (v .accounts-near m);

@@ -13,6 +13,7 @@ use Rattle.instructions.specs.Legs.{legAt}
 use Rattle.instructions.proofs.Fetching.{fetched-leg-case}
 use Rattle.ledger.specs.Ledger.{obligationAt}
 use Rattle.closing.specs.Lines.{written}
+use Rattle.reprint.specs.Kept.{linesKept}
 use Rattle.refusals.specs.Refusals.{answer, outcome}
 use Rattle.refusals.specs.Calls.{cancelRefusalsIn, cancelRefusalsOf, deliverRefusalsIn, deliverRefusalsOf, offerRefusalsIn, closeRefusalsIn, closeRefusals}
 use Rattle.refusals.proofs.Refusals.{passed, by-number, by-number₂}
@@ -27,6 +28,7 @@ use Rattle.book.specs.Book.{todayOf}
 use Rattle.book.specs.Instructing.{withdrawRefusals, doneRefused, withdrawDone, withdrawBy, withdraw, cancelRefused, cancelDone, cancel, deliverRefused, deliverDone, deliver}
 use Rattle.book.specs.Buying.{offerRefusalsFor, offerDone, offer}
 use Rattle.book.specs.Close.{nextDay, linesOf, closeRefused, closeDone, closeBy, close, closeWords}
+use Rattle.book.specs.Again.{againNumber, againDone, again, againWords}
 
 module _ (b : Book) where
   pub withdraw-case : (P : Done → Type 0) (n member : ℕ) → ((k : ℕ) → (k ≡ 0 → ⊥) → P (doneRefused b k)) →
@@ -78,3 +80,10 @@ module _ (b : Book) where
       by (At next) q =
           by-number₂ P (number (At next)) (closeDone b price rate next) (closeRefused b) (written (linesOf b price rate) ws) (λ k. ws)
           (λ z. f (number (At next)) z) (λ e. g next q (close-passed price rate (length ws) (At next) e))
+
+  -- an Again, and the words of its list
+  pub again-case : (P : Closed → List ℕ → Type 0) (ws : List ℕ) → ((k : ℕ) → (k ≡ 0 → ⊥) → P (closeRefused b k) ws) →
+      (againNumber b (length ws) ≡ 0 → P (againDone b) (written (linesKept (b .last)) ws)) → P (again b (length ws)) (againWords b ws)
+  unfolding again againWords
+  again-case P ws f g =
+      by-number₂ P (againNumber b (length ws)) (againDone b) (closeRefused b) (written (linesKept (b .last)) ws) (λ k. ws) (λ z. f (againNumber b (length ws)) z) g

@@ -15,7 +15,7 @@ use Rattle.instructions.specs.Legs.{fetchedLeg}
 use Rattle.instructions.specs.Match.{lowestFit}
 use Rattle.ledger.specs.Ledger.{fetched}
 use Rattle.refusals.specs.Refusals.{refuse, noMember}
-use Rattle.refusals.specs.Calls.{enterRefusals, cancelRefusalsIn, cancelRefusalsOf, deliverRefusalsIn, deliverRefusalsOf, offerRefusalsIn, offerRefusalsOf, closeRefusalsIn, closeRefusals}
+use Rattle.refusals.specs.Calls.{enterRefusals, cancelRefusalsIn, cancelRefusalsOf, deliverRefusalsIn, deliverRefusalsOf, offerRefusalsIn, offerRefusalsOf, closeRefusalsIn, closeRefusals, againRefusals}
 use Rattle.refusals.proofs.Refusals.{Refuses, is-printed, outcome-refuses}
 use Rattle.refusals.proofs.Named.{fetch-refuses}
 use Rattle.payments.specs.Month.{monthRefusals}
@@ -34,6 +34,7 @@ use Rattle.book.specs.Book.{todayOf}
 use Rattle.book.specs.Instructing.{newLeg, enteredAlone, enteredWith, enteredBy, enterRefused, enter, withdrawRefusals, doneRefused, withdrawBy, withdraw, cancelRefusals, cancelRefused, cancelDone, cancel, deliverRefusals, deliverRefused, deliverDone, deliver}
 use Rattle.book.specs.Buying.{offerRefusalsFor, offerRefusals, offerDone, offer}
 use Rattle.book.specs.Close.{nextDay, closeRefused, closeBy, close}
+use Rattle.book.specs.Again.{againDone, again}
 use Rattle.book.specs.Month.{month}
 use Rattle.book.specs.Showing.{statusRefusals, statusRefused, statusDone, status, accountRefused, account, Looks}
 
@@ -89,6 +90,10 @@ module _ (b : Book) where
       by : (t : NextDay) → Refuses (closeRefusals price rate words t) (closeBy b price rate words t .answer)
       by Never = record { printed = is-printed (closeRefusals price rate words Never) refl; given = refl }
       by (At next) = outcome-refuses (λ (r : Closed). r .answer) (closeRefusals price rate words (At next)) _ (closeRefused b) refl refl (λ k. refl)
+
+  pub again-refuses : (words : ℕ) → Refuses (againRefusals (b .day .«has_closed») words) (again b words .answer)
+  unfolding again againRefusals
+  again-refuses words = outcome-refuses (λ (r : Closed). r .answer) (againRefusals (b .day .«has_closed») words) (againDone b) (closeRefused b) refl refl (λ k. refl)
 
   pub month-refuses : (cs : List ℕ) (places : ℕ) → Refuses (monthRefusals (b .ledger .accounts) (b .day .«close_since») cs places) (month b cs places .answer)
   unfolding month monthRefusals

@@ -11,12 +11,13 @@ use Rattle.closing.specs.declared.DayEnd.{DayEnd}
 use Rattle.closing.specs.declared.Line.{Line}
 use Rattle.closing.specs.Lines.{written}
 use Rattle.closing.specs.Close.{closeLines, closedLedger}
+use Rattle.reprint.specs.Kept.{keptFrom}
 use Rattle.refusals.specs.Refusals.{answer, outcome}
 use Rattle.refusals.specs.Calls.{closeRefusals}
 use Rattle.book.specs.declared.Book.{Book}
 use Rattle.book.specs.declared.BookDay.{BookDay}
 use Rattle.book.specs.declared.Closed.{Closed}
-use Rattle.book.specs.Book.{withDay, closedOf, todayOf}
+use Rattle.book.specs.Book.{withDay, withLast, closedOf, todayOf}
 
 -- D4, Days and units: the next clearing day after today
 abbrev pub nextDay : Book → NextDay
@@ -30,15 +31,16 @@ dayEnd b price rate = record { setup = b .setup; today = todayOf b; price = pric
 abbrev pub linesOf : Book → ℕ → ℕ → List Line
 linesOf b price rate = closeLines (dayEnd b price rate) (b .ledger)
 
--- C17, Close, and R21, Refusals: the day after it, on which a Month may come
+-- C17, Close, and R21 and R22, Refusals: the day after it, on which a Month and an Again may come
 abbrev pub closedDay : Day → BookDay
-closedDay next = record { today = next; «close_since» = true }
+closedDay next = record { today = next; «close_since» = true; «has_closed» = true }
 
--- C17, Close: the book after it, of which today is the next clearing day
+-- C17, Close, and N2, Again: the book after it, of which today is the next clearing day, and which keeps the lines
 abbrev pub closedBook : Book → ℕ → ℕ → Day → Book
-closedBook b price rate next = withDay (closedDay next) (closedLedger (dayEnd b price rate) (b .ledger)) b
+closedBook b price rate next =
+    withLast (keptFrom (linesOf b price rate)) (withDay (closedDay next) (closedLedger (dayEnd b price rate) (b .ledger)) b)
 
--- A5, Refusals: a refused Close
+-- A5, Refusals: a refused Close or Again
 abbrev pub closeRefused : Book → ℕ → Closed
 closeRefused b n = record { answer = n; count = 0; book = b }
 

@@ -1,22 +1,27 @@
 -- Instructions: Enter, Withdraw, Cancel, Deliver.
-use Prim.Native.Nat.{ℕ, _+_}
+use Prim.Native.Nat.{ℕ, _<_}
 use mathlib.Core.Bool.{true, not}
 use mathlib.Core.List.{List, [], _∷_}
 use lib.Dec.{eqb}
 use Rattle.calendar.specs.declared.Day.{Day}
 use Rattle.instructions.specs.declared.Leg.{Leg}
-use Rattle.instructions.specs.declared.LegState.the-variants.{Withdrawn, Matched}
+use Rattle.instructions.specs.declared.Legs.{Legs}
+use Rattle.instructions.specs.declared.LegState.the-variants.{Withdrawn}
 use Rattle.instructions.specs.declared.Fit.{Fit}
 use Rattle.instructions.specs.declared.Fit.the-variants.{With, Nobody}
+use Rattle.instructions.specs.declared.Entry.{Entry}
+use Rattle.instructions.specs.declared.Entry.the-variants.{Refused, Alone, Matching}
 use Rattle.instructions.specs.declared.FetchedLeg.{FetchedLeg}
 use Rattle.instructions.specs.declared.FetchedLeg.the-variants.{Found, Absent}
-use Rattle.instructions.specs.Legs.{isWaiting, legOf, inState, legAt, fetchedLeg, withState, withLeg}
+use Rattle.instructions.specs.Legs.{mostLegs, isWaiting, legOf, legAt, fetchedLeg, withState}
 use Rattle.instructions.specs.Match.{delivering, receiving, lowestFit}
+use Rattle.instructions.specs.Entry.{withEntry, legNumber, obligationNumber}
 use Rattle.ledger.specs.declared.Obligation.{Obligation}
+use Rattle.ledger.specs.declared.Ledger.{Ledger}
 use Rattle.ledger.specs.declared.Fetched.{Fetched}
 use Rattle.ledger.specs.declared.Change.{Change}
 use Rattle.ledger.specs.Obligations.{newObligation, cashOf, wishing, movedByWish, delivering as deliveringFrom}
-use Rattle.ledger.specs.Ledger.{fetched, withObligation, refusedChange, withNew}
+use Rattle.ledger.specs.Ledger.{mostObligations, fetched, withObligation, refusedChange, withNew}
 use Rattle.book.specs.declared.Book.{Book}
 use Rattle.book.specs.declared.Entered.{Entered}
 use Rattle.book.specs.declared.Done.{Done}
@@ -43,25 +48,39 @@ obligationOf new old =
       day = new .day;
     })
 
+-- E8, Enter: the ledger after an Enter. A leg that matches one of these legs makes an obligation. A refused Enter leaves the
+-- ledger as it is (A5).
+abbrev pub withMatch : Legs → Entry → Ledger → Ledger
+withMatch legs Refused l = l
+withMatch legs (Alone new) l = l
+withMatch legs (Matching new k) l = withNew (obligationOf new (legAt legs k)) l
+
+-- what is required so that the ledger can take the obligation of a match
+abbrev pub Matchable : Entry → Ledger → Type 0
+Matchable Refused l = Unit {0}
+Matchable (Alone new) l = Unit {0}
+Matchable (Matching new k) l = (k < mostLegs) × (l .count < mostObligations)
+
+-- E8 and E10, Enter: the book after it
+abbrev pub enteredBook : Book → Entry → Book
+enteredBook b e = withLegs (withEntry e (b .ledger .count) (b .legs)) (withLedger (withMatch (b .legs) e (b .ledger)) b)
+
+-- E11, Enter, and A5, Refusals: what it returns with this answer number
+abbrev pub enterReturns : Book → ℕ → Entry → Entered
+enterReturns b number e = record {
+  answer = number;
+  leg = legNumber e (b .legs .count);
+  obligation = obligationNumber e (b .ledger .count);
+  book = enteredBook b e;
+}
+
 -- E10 and E11, Enter: no leg fits, so the new one waits
 unfoldable pub enteredAlone : Book → Leg → Entered
-enteredAlone b new = record {
-  answer = 0;
-  leg = b .legs .count;
-  obligation = 0;
-  book = withLegs (withLeg new (b .legs)) b;
-}
+enteredAlone b new = enterReturns b 0 (Alone new)
 
 -- E8, E10 and E11, Enter: leg k fits, so both are matched to a new obligation
 unfoldable pub enteredWith : Book → Leg → ℕ → Entered
-enteredWith b new k = record {
-  answer = 0;
-  leg = b .legs .count;
-  obligation = b .ledger .count + 1;
-  book = withLegs
-      (withLeg (inState (Matched (b .ledger .count)) new) (withState k (Matched (b .ledger .count)) (b .legs)))
-      (withLedger (withNew (obligationOf new (legAt (b .legs) k)) (b .ledger)) b);
-}
+enteredWith b new k = enterReturns b 0 (Matching new k)
 
 -- E10, Enter: one that is done, by the search for the leg that the new one matches
 abbrev pub enteredBy : Book → Leg → Fit → Entered

@@ -11,9 +11,9 @@ use Rattle.book.specs.declared.Done.{Done}
 use Rattle.book.specs.Book.{withDay}
 use Rattle.book.specs.Instructing.{doneRefused}
 
--- R21, Refusals: the day after it, on which no Month may come until the next Close
+-- R21, Refusals, and N3, Again: the day after it, on which no Month may come until the next Close, but an Again may
 abbrev pub paidDay : BookDay → BookDay
-paidDay d = record { today = d .today; «close_since» = false }
+paidDay d = record { today = d .today; «close_since» = false; «has_closed» = d .«has_closed» }
 
 -- M10, Month: the book after it
 abbrev pub monthBook : Book → Book

@@ -11,6 +11,7 @@ use Rattle.calendar.specs.Days.{clearingDays}
 use Rattle.instructions.specs.Legs.{noLegs}
 use Rattle.ledger.specs.declared.Terms.{Terms}
 use Rattle.ledger.specs.Ledger.{newLedger}
+use Rattle.reprint.specs.Kept.{keptFrom}
 use Rattle.book.specs.declared.Book.{Book}
 use Rattle.book.specs.declared.Opened.{Opened}
 use Rattle.refusals.specs.Calls.{badFirst}
@@ -26,9 +27,10 @@ termsOf terms =
 abbrev pub freshBook : Day → ClosedDays → ℕ → Book
 freshBook first closedDays terms = record {
   setup = record { «closed_days» = closedDays; terms = termsOf terms };
-  day = record { today = first; «close_since» = false };
+  day = record { today = first; «close_since» = false; «has_closed» = false };
   legs = noLegs;
   ledger = newLedger;
+  last = keptFrom [];
 }
 
 -- O6, Open: a refused Open returns the fresh book of day 2, without closed days and with terms 0

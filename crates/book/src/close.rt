@@ -4,13 +4,15 @@ use crate::BookDay;
 use crate::Closed;
 use calendar::NextDay;
 use closing::DayEnd;
+use reprint::LastClose;
 ghost use mathlib.Core.Path.{_≡_};
 ghost use lib.ListN.{length};
 ghost use Rattle.book.specs.Book.{Valid};
 ghost use Rattle.book.specs.Close.{close, closeWords};
 
 impl Book {
-    // Charges, notices, buys in and compensates; then the offers are dropped and today is the next clearing day.
+    // Charges, notices, buys in and compensates; then the offers are dropped and today is the next clearing day. The
+    // lines are kept for Again.
     pub fn close(mut self, price: u64, rate: u64, lines: &mut [u64]) -> Closed
         requires { ⌜ Valid self ⌝ }
         ensures { λ r. ⌜ r ≡ close self price rate (length (now (lines .entry))) ⌝ }
@@ -44,10 +46,13 @@ impl Book {
         let after = BookDay {
             today: next,
             close_since: true,
+            has_closed: true,
         };
         let done = closing::close(self.ledger, end, lines);
+        let kept = LastClose::of(lines, done.count);
         let ledger = done.ledger;
         self.ledger = ledger;
+        self.last = kept;
         self.day = after;
         Closed {
             answer: 0,

@@ -6,24 +6,24 @@ use crate::Done;
 use crate::Entered;
 use amounts::MOST_QUANTITY;
 use calendar::Day;
+use instructions::Entry;
 use instructions::FetchedLeg;
-use instructions::Fit;
 use instructions::Instruction;
 use instructions::Leg;
 use instructions::LegState;
+use instructions::Legs;
 use ledger::Change;
 use ledger::Deal;
 use ledger::Fetched;
+use ledger::Ledger;
 use ledger::Obligation;
 use ledger::Part;
 use refusals::LAST_MEMBER;
 ghost use mathlib.Core.Path.{_≡_};
-ghost use Prim.Native.Nat.{_<_};
-ghost use Rattle.instructions.specs.Legs.{mostLegs};
-ghost use Rattle.ledger.specs.Ledger.{mostObligations, SoundFetched};
+ghost use Rattle.ledger.specs.Ledger.{SoundFetched};
 ghost use Rattle.refusals.specs.Refusals.{answer};
 ghost use Rattle.book.specs.Book.{Valid};
-ghost use Rattle.book.specs.Instructing.{obligationOf, enteredWith, enter, withdraw};
+ghost use Rattle.book.specs.Instructing.{obligationOf, withMatch, Matchable, enter, withdraw};
 ghost use Rattle.book.specs.Instructing.{withdrawRefusals, cancelChange, cancel, deliverChange, deliver};
 
 // The obligation of a new leg and the one that it matches.
@@ -106,33 +106,30 @@ fn deliver_change(fetched: Fetched, today: Day, quantity: u64) -> Change
     }
 }
 
-impl Book {
-    // The new leg matches leg k: both belong to a new obligation.
-    fn enter_with(mut self, new: Leg, k: u64) -> Entered
-        requires { ⌜ (k < mostLegs) × (self .legs .count < mostLegs) × (self .ledger .count < mostObligations) ⌝ }
-        ensures { λ r. ⌜ r ≡ enteredWith self new k ⌝ }
-    {
-        let legs = self.legs;
-        let ledger = self.ledger;
-        let number = legs.count as u64;
-        let obligation = ledger.count as u64;
-        let state = LegState::Matched(obligation as u8);
-        let rows = legs.rows;
-        let i = k as usize;
-        let old = rows[i];
-        let matched = legs.set_state(k, state);
-        let all = matched.add(new.in_state(state));
-        let made = ledger.add(obligation_of(new, old));
-        self.legs = all;
-        self.ledger = made;
-        Entered {
-            answer: 0,
-            leg: number,
-            obligation: obligation + 1,
-            book: self,
+// The ledger after an Enter. If the new leg matches one of these legs, it has one obligation more.
+fn with_match(mut ledger: Ledger, legs: Legs, entry: Entry) -> Ledger
+    requires { ⌜ Matchable entry ledger ⌝ }
+    ensures { λ r. ⌜ r ≡ withMatch legs entry ledger ⌝ }
+{
+    let mut rows = ledger.obligations;
+    let mut count = ledger.count;
+    match entry {
+        Entry::Refused => {}
+        Entry::Alone(_) => {}
+        Entry::Matching(new, k) => {
+            let all = legs.rows;
+            let i = k as usize;
+            let old = all[i];
+            rows[count] = obligation_of(new, old);
+            count += 1;
         }
     }
+    ledger.obligations = rows;
+    ledger.count = count;
+    ledger
+}
 
+impl Book {
     // Enters an instruction, which matches the lowest waiting leg that fits it, or waits.
     pub fn enter(
         mut self,
@@ -156,27 +153,22 @@ impl Book {
             day: day,
         };
         let legs = self.legs;
+        let ledger = self.ledger;
         let closed_days = self.setup.closed_days;
         let number = refusals::enter_answer(closed_days, self.day.today, legs.count, asked);
-        if number != 0 {
-            return Entered {
-                answer: number,
-                leg: 0,
-                obligation: 0,
-                book: self,
-            };
+        let entry = legs.entry(number, asked);
+        let legs_before = legs.count as u64;
+        let obligations_before = ledger.count as u64;
+        let made = with_match(ledger, legs, entry);
+        let all = legs.enter(entry, obligations_before);
+        self.legs = all;
+        self.ledger = made;
+        Entered {
+            answer: number,
+            leg: entry.leg_number(legs_before),
+            obligation: entry.obligation_number(obligations_before),
+            book: self,
         }
-        let new = asked.leg();
-        let Fit::With(k) = legs.lowest_fit(new) else {
-            self.legs = legs.add(new);
-            return Entered {
-                answer: 0,
-                leg: legs.count as u64,
-                obligation: 0,
-                book: self,
-            };
-        };
-        self.enter_with(new, k)
     }
 
     // Withdraws a leg of the member, which must be waiting.

@@ -5,7 +5,9 @@ use instructions::Legs;
 use ledger::Ledger;
 use ledger::Parts;
 use ledger::Setup;
+use reprint::LastClose;
 
+mod again;
 mod buying;
 mod close;
 mod instructing;
@@ -13,11 +15,13 @@ mod month;
 mod open;
 mod showing;
 
-// What the days have brought: the day that it is, and what a Close leaves for the Month after it.
+// What the days have brought: the day that it is, and which Closes there were.
 pub struct BookDay {
     pub today: Day,
     // Whether a Close was accepted since Open or the last accepted Month.
     pub close_since: bool,
+    // Whether a Close was accepted since Open.
+    pub has_closed: bool,
 }
 
 // The settlement-discipline book of one bond. The large arrays stand first and the small fields last, so that there is
@@ -25,6 +29,8 @@ pub struct BookDay {
 pub struct Book {
     pub legs: Legs,
     pub ledger: Ledger,
+    // The lines of the latest accepted Close.
+    pub last: LastClose,
     pub setup: Setup,
     pub day: BookDay,
 }
@@ -63,7 +69,7 @@ pub struct Delivered {
     pub book: Book,
 }
 
-// The answer of Close: the number of lines.
+// The answer of Close and of Again: the number of lines.
 pub struct Closed {
     pub answer: u64,
     pub count: usize,

@@ -18,17 +18,13 @@ impl Book {
         let ledger = self.ledger;
         let accounts = ledger.accounts;
         let number = payments::settle_month(accounts, self.day.close_since, collected, payouts);
-        if number != 0 {
-            return Done {
-                answer: number,
-                book: self,
-            };
+        if number == 0 {
+            let after = ledger.clear();
+            self.ledger = after;
+            self.day.close_since = false;
         }
-        let after = ledger.clear();
-        self.ledger = after;
-        self.day.close_since = false;
         Done {
-            answer: 0,
+            answer: number,
             book: self,
         }
     }

@@ -9,6 +9,7 @@ use instructions::Legs;
 use ledger::Ledger;
 use ledger::Setup;
 use ledger::Terms;
+use reprint::LastClose;
 ghost use mathlib.Core.Path.{_≡_};
 ghost use Rattle.book.specs.Open.{termsOf, freshBook, refusedBook, opened};
 ghost use Rattle.book.specs.Book.{Valid};
@@ -39,6 +40,7 @@ impl Book {
         Book {
             legs: Legs::none(),
             ledger: Ledger::new(),
+            last: LastClose::none(),
             setup: Setup {
                 closed_days: closed_days,
                 terms: terms_of(terms),
@@ -46,6 +48,7 @@ impl Book {
             day: BookDay {
                 today: first,
                 close_since: false,
+                has_closed: false,
             },
         }
     }

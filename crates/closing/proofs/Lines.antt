@@ -1,16 +1,18 @@
 -- Laws on the lines in the lent list, and on parts of a Close that follow one another.
-use Prim.Native.Nat.{ℕ, suc, _+_, _*_}
+use Prim.Native.Nat.{ℕ, zero, suc, _+_, _*_, _≤_}
 use native.Mathlib.Omega.{arith}
 use native.Mathlib.Nat.{add-zero}
 use mathlib.Core.Path.{_≡_, refl, sym, ap, subst, _∙_}
 use mathlib.Core.List.{List, [], _∷_, _++_}
-use lib.ListN.{length, set, length-append}
-use lib.Seq.{sets, length-sets}
+use lib.ListN.{length, set, take, drop, length-append}
+use lib.Seq.{sets, length-sets, take-append-seam, drop-append-seam}
+use Rattle.basics.specs.Lists.{tableFrom, table}
 use Rattle.basics.proofs.Stores.{sets-append}
+use Rattle.basics.proofs.Tables.{table-length, table-more}
 use Rattle.ledger.specs.declared.Obligation.{Obligation}
 use Rattle.closing.specs.declared.Line.{Line}
 use Rattle.closing.specs.declared.Closing.{Closing}
-use Rattle.closing.specs.Lines.{wordsOf, flat, Made, nothing, one, then, Room, Wrote}
+use Rattle.closing.specs.Lines.{wordsOf, flat, written, lineAt, linesRead, Made, nothing, one, then, Room, Wrote}
 
 -- six stores write the words of a line
 pub six-stores : (ws : List ℕ) (k : ℕ) (l : Line) →
@@ -34,6 +36,67 @@ unfolding flat
 flat-length [] = refl
 flat-length (l ∷ ls) = omega (arith, flat-length ls)
 
+-- ---- lines that are read from a list
+-- the lines behind the first are those of the list behind its first six words
+line-next : (l : Line) (ws : List ℕ) (i : ℕ) → lineAt (wordsOf l ++ ws) (suc i) ≡ lineAt ws i
+line-next l ws i =
+    let e0 : 6 * suc i ≡ suc (suc (suc (suc (suc (suc (6 * i)))))) = omega arith in
+    let e1 : 6 * suc i + 1 ≡ suc (suc (suc (suc (suc (suc (6 * i + 1)))))) = omega arith in
+    let e2 : 6 * suc i + 2 ≡ suc (suc (suc (suc (suc (suc (6 * i + 2)))))) = omega arith in
+    let e3 : 6 * suc i + 3 ≡ suc (suc (suc (suc (suc (suc (6 * i + 3)))))) = omega arith in
+    let e4 : 6 * suc i + 4 ≡ suc (suc (suc (suc (suc (suc (6 * i + 4)))))) = omega arith in
+    let e5 : 6 * suc i + 5 ≡ suc (suc (suc (suc (suc (suc (6 * i + 5)))))) = omega arith in
+    rw (e1, e2, e3, e4, e5, e0)
+
+read-more : (l : Line) (k : ℕ) (ws : List ℕ) → linesRead (suc k) (wordsOf l ++ ws) ≡ l ∷ linesRead k ws
+unfolding linesRead
+read-more l k ws = table-more k (lineAt (wordsOf l ++ ws)) ∙ (λ i. l ∷ table k (λ n. line-next l ws n i))
+
+flat-back : (ls : List Line) (ws : List ℕ) → linesRead (length ls) (flat ls ++ ws) ≡ ls
+unfolding flat linesRead tableFrom
+flat-back [] ws = refl
+flat-back (l ∷ ls) ws = read-more l (length ls) (flat ls ++ ws) ∙ ap (λ (ms : List Line). l ∷ ms) (flat-back ls ws)
+
+-- lines written at the front of a list are read back, whatever stands behind them
+pub lines-back : (ls : List Line) (ws : List ℕ) → linesRead (length ls) (written ls ws) ≡ ls
+unfolding written
+lines-back ls ws = flat-back ls (drop (length (flat ls)) ws)
+
+-- they are within the list
+pub written-fits : (ls : List Line) (ws : List ℕ) → 6 * length ls ≤ length (written ls ws)
+unfolding written
+written-fits ls ws = omega (arith, length-append (flat ls) (drop (length (flat ls)) ws), flat-length ls)
+
+-- their words are the first words of the list, and the words behind them are as they were
+pub written-front : (ls : List Line) (ws : List ℕ) → take (6 * length ls) (written ls ws) ≡ flat ls
+unfolding written
+written-front ls ws = rw (← flat-length ls) (take-append-seam (flat ls) (drop (length (flat ls)) ws))
+
+pub written-behind : (ls : List Line) (ws : List ℕ) → drop (6 * length ls) (written ls ws) ≡ drop (6 * length ls) ws
+unfolding written
+written-behind ls ws = rw (← flat-length ls) (drop-append-seam (flat ls) (drop (length (flat ls)) ws))
+
+-- as many lines are read as are asked for
+pub read-length : (k : ℕ) (ws : List ℕ) → length (linesRead k ws) ≡ k
+unfolding linesRead
+read-length k ws = table-length k (lineAt ws)
+
+-- the words of lines that are read are the first words of the list
+pub read-words : (k : ℕ) (ws : List ℕ) → 6 * k ≤ length ws → flat (linesRead k ws) ≡ take (6 * k) ws
+unfolding flat linesRead tableFrom
+read-words zero ws h = refl
+read-words (suc k) (a ∷ b ∷ c ∷ d ∷ e ∷ f ∷ ws) h =
+    let l : Line = record { kind = a; obligation = b; quantity = c; cents = d; supplier = e; price = f } in
+    let six : 6 * suc k ≡ suc (suc (suc (suc (suc (suc (6 * k)))))) = omega arith in
+    ap flat (read-more l k ws) ∙ rw six (ap (λ (us : List ℕ). wordsOf l ++ us) (read-words k ws (omega arith)))
+read-words (suc k) [] h = absurd (omega arith)
+read-words (suc k) (a ∷ []) h = absurd (omega arith)
+read-words (suc k) (a ∷ b ∷ []) h = absurd (omega arith)
+read-words (suc k) (a ∷ b ∷ c ∷ []) h = absurd (omega arith)
+read-words (suc k) (a ∷ b ∷ c ∷ d ∷ []) h = absurd (omega arith)
+read-words (suc k) (a ∷ b ∷ c ∷ d ∷ e ∷ []) h = absurd (omega arith)
+
+-- ---- lines that are written
 -- to write lines behind other lines is to write them together
 pub flat-stores : (ws : List ℕ) (count : ℕ) (ls ms : List Line) →
     sets (sets ws (6 * count) (flat ls)) (6 * (count + length ls)) (flat ms) ≡ sets ws (6 * count) (flat (ls ++ ms))

@@ -1,10 +1,13 @@
 -- The lines of a Close, and what a part of a Close makes of an obligation.
-use Prim.Native.Nat.{ℕ, _+_, _*_, _≤_}
+use Prim.Native.Nat.{ℕ, _+_, _*_, _≤_, _<_}
 use mathlib.Core.Path.{_≡_}
 use mathlib.Core.List.{List, [], _∷_, _++_}
-use lib.ListN.{length, drop}
+use lib.ListN.{length, getD, drop}
 use lib.Seq.{sets}
+use Rattle.basics.specs.Lists.{table}
+use Rattle.amounts.specs.Amounts.{mostQuantity, mostOfferPrice}
 use Rattle.ledger.specs.declared.Obligation.{Obligation}
+use Rattle.ledger.specs.Ledger.{mostObligations, mostSupplier}
 use Rattle.closing.specs.declared.Line.{Line}
 use Rattle.closing.specs.declared.Closing.{Closing}
 
@@ -40,6 +43,29 @@ flat (l ∷ ls) = wordsOf l ++ flat ls
 -- C15, Close: the lines stand at the front of the lent list; each word behind them stays as it was
 unfoldable pub written : List Line → List ℕ → List ℕ
 written ls ws = flat ls ++ drop (length (flat ls)) ws
+
+-- C11, Close: the line with number i of a list, from 0 on; each line has six words
+abbrev pub lineAt : List ℕ → ℕ → Line
+lineAt ws i = record {
+  kind = getD ws (6 * i) 0;
+  obligation = getD ws (6 * i + 1) 0;
+  quantity = getD ws (6 * i + 2) 0;
+  cents = getD ws (6 * i + 3) 0;
+  supplier = getD ws (6 * i + 4) 0;
+  price = getD ws (6 * i + 5) 0;
+}
+
+-- C11 and J5, Close: the first count lines of a list, as they are read from it
+unfoldable pub linesRead : ℕ → List ℕ → List Line
+linesRead count ws = table count (lineAt ws)
+
+-- how large the numbers of a line are at most; this holds of every line of a Close
+pub record SoundLine (l : Line) : Type 0 where
+  pub kind-most : l .kind ≤ compensationKind
+  pub there : l .obligation < mostObligations
+  pub quantity-most : l .quantity ≤ mostQuantity
+  pub supplier-most : l .supplier ≤ mostSupplier
+  pub price-most : l .price ≤ mostOfferPrice
 
 -- what a part of a Close makes: the obligation after it, and its lines
 pub record Made : Type 0 where

@@ -30,18 +30,21 @@ penalised n price rate o = one o (plainLine penaltyKind n (o .parts .outstanding
 unfoldable pub noticeAt : Terms → ℕ → ℕ → Obligation → Made
 noticeAt terms age n o = pick (eqb age (terms .notice .0)) (one o (plainLine noticeKind n (o .parts .outstanding) 0)) (nothing o)
 
--- C8, C9 and C12, Close: what one offer gives is bought in and makes a line. Its charge is the value less the cash, and
--- the cash goes on from the units that were settled before it.
+-- C9 and C12, Close: the line of what one offer gives. Its charge is the value less the cash, and the cash goes on from
+-- the units that were settled before it.
+abbrev pub boughtLine : ℕ → Given → Obligation → Line
+boughtLine n g o = record {
+  kind = boughtKind;
+  obligation = n;
+  quantity = g .quantity;
+  cents = charge (g .quantity) (g .offer .price) (cashOf o (g .quantity));
+  supplier = g .offer .supplier;
+  price = g .offer .price;
+}
+
+-- C8, Close: what one offer gives is bought in and makes a line
 unfoldable pub boughtFrom : ℕ → Given → Obligation → Made
-boughtFrom n g o =
-    one (moving BoughtIn (g .quantity) o) (record {
-      kind = boughtKind;
-      obligation = n;
-      quantity = g .quantity;
-      cents = charge (g .quantity) (g .offer .price) (cashOf o (g .quantity));
-      supplier = g .offer .supplier;
-      price = g .offer .price;
-    })
+boughtFrom n g o = one (moving BoughtIn (g .quantity) o) (boughtLine n g o)
 
 -- C9 and C14, Close: one line for each offer that gives, one after another
 unfoldable pub boughtAll : ℕ → List Given → Obligation → Made

@@ -76,7 +76,7 @@ fn plain_line(kind: u64, number: u64, quantity: u64, cents: u64) -> Line
 }
 
 // Writes a line behind the count lines that are there.
-fn put_line(lines: &mut [u64], count: usize, line: Line)
+pub fn put_line(lines: &mut [u64], count: usize, line: Line)
     requires { ⌜ 6 * (count + 1) ≤ length (now lines) ⌝ }
     ensures { λ _. ⌜ now (lines .exit) ≡ sets (now (lines .entry)) (6 * count) (wordsOf line) ⌝ }
 {

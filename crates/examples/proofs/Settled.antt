@@ -23,25 +23,29 @@ use Rattle.ledger.specs.Obligations.{withGracePrice, cashOf, isDue, moving}
 use Rattle.ledger.specs.Obligations.{settled as settledSoFar}
 use Rattle.ledger.specs.Ledger.{obligationAt, withObligation, fetched}
 use Rattle.refusals.specs.Refusals.{answer}
-use Rattle.book.specs.Book.{withDay, ageOf}
+use Rattle.reprint.specs.Kept.{keptFrom}
+use Rattle.book.specs.Book.{withDay, withLast, ageOf}
 use Rattle.book.specs.Open.{openRefusals, opened}
 use Rattle.book.specs.Instructing.{obligationOf, enteredAlone, enteredWith, enter, deliverRefusals, deliver}
 use Rattle.refusals.specs.Calls.{fetchOutcome, enterRefusals, deliverRefusalsOf}
 use Rattle.book.specs.Buying.{offerRefusals, offer}
-use Rattle.refusals.specs.Calls.{offerRefusalsIn, offerRefusalsOf, closeRefusalsIn, closeRefusals}
+use Rattle.refusals.specs.Calls.{offerRefusalsIn, offerRefusalsOf, closeRefusalsIn, closeRefusals, againRefusals}
 use Rattle.book.specs.Close.{closeBy, close, closeWords}
-use Rattle.book.specs.Month.{month}
-use Rattle.closing.specs.Lines.{flat, written, then}
-use Rattle.closing.specs.Stages.{priced, penalised, noticeAt, boughtAll, buyInAt, compensated, compensatedAt}
+use Rattle.book.specs.Again.{again, againWords}
+use Rattle.book.specs.Month.{monthBook, monthAnswer, month}
+use Rattle.closing.specs.Lines.{penaltyKind, flat, written, linesRead, then}
+use Rattle.closing.specs.Stages.{plainLine, priced, penalised, noticeAt, boughtAll, buyInAt, compensated, compensatedAt}
 use Rattle.closing.specs.Stages.{boughtFrom as boughtOffer}
 use Rattle.closing.specs.Close.{stages, closedOne, rowsUpTo, linesUpTo, fined, accountsUpTo}
 use Rattle.payments.specs.Month.{overCollected, monthRefusals, paidOut}
 use Rattle.book.specs.declared.Book.{Book}
+use Rattle.book.specs.declared.Done.{Done}
+use Rattle.book.specs.Instructing.{doneRefused}
+use Rattle.refusals.proofs.Refusals.{by-number}
 use Rattle.journal.specs.Calls.{Call}
-use Rattle.journal.specs.Facts.{linesRead}
-use Rattle.journal.specs.Played.{begun}
-use Rattle.examples.specs.Played.{opening, bookAfter, eventsOn, numbersOf, accepted, answersOf, shown, sale, closeAt, daysPass, toBuyIn, compensationPlayed, capOffers, capPlayed, matchPlayed, deliversPlayed, auctionOffers, auctionPlayed}
-use Rattle.examples.specs.Table.{table, boughtFrom, nthDay, dayNumber, oneOfThree, threeCash, compensatedFor, boughtInTwo}
+use Rattle.journal.specs.Played.{outcome, eventOf, begun}
+use Rattle.examples.specs.Played.{opening, bookAfter, eventsOn, numbersOf, accepted, answersOf, shown, sale, closeAt, daysPass, toBuyIn, compensationPlayed, capOffers, capPlayed, matchPlayed, deliversPlayed, auctionOffers, auctionPlayed, collecting, monthPlayed, answerWithLines, answersWithLines, twoSales, againLent, reprintPlayed}
+use Rattle.examples.specs.Table.{table, boughtFrom, nthDay, dayNumber, oneOfThree, threeCash, compensatedFor, boughtInTwo, twoPenalties}
 
 -- the n-th clearing day is found by counting the clearing days up to it
 nth : (cs : List Day) (j e n : ℕ) → j ≤ e → e ≤ lastDay → clearing cs (day e) ≡ true → clearingWithin cs j (e - j) ≡ n →
@@ -66,7 +70,7 @@ example-9 = λ i. dayNumber (thirtieth i) ++ dayNumber (thirty-fifth i) ++ dayNu
 
 -- the rules that the rows are worked out by; a proof that unfolds this name unfolds them all
 unfoldable rules : ℕ
-unfolding total tableFrom countBelow rounded value penalty compensation dueFor cash cashOfEach charge tolerance amountsMatch aboveCap floorShare remainder centsLeft comesBefore rank extraCent share shares overtakes insertedBy rankedBy offersFor withGiven givenBy given boughtFrom among clearing clearingWithin ageAt closedDays listed closedRefused risesFrom answer opened openRefusals ageOf enterRefusals obligationOf enteredAlone enteredWith enter deliverRefusals deliverRefusalsOf deliver fetchOutcome offerRefusals offerRefusalsIn offerRefusalsOf offer fits firstFit lowestFit settledSoFar cashOf moving close closeBy closeWords closeRefusals closeRefusalsIn nextAfter nextWithin flat then written stages closedOne rowsUpTo linesUpTo fined accountsUpTo priced penalised noticeAt boughtOffer boughtAll buyInAt compensated compensatedAt isDue paidOut month monthRefusals overCollected fetched linesRead debited credited transferred
+unfolding total tableFrom countBelow rounded value penalty compensation dueFor cash cashOfEach charge tolerance amountsMatch aboveCap floorShare remainder centsLeft comesBefore rank extraCent share shares overtakes insertedBy rankedBy offersFor withGiven givenBy given boughtFrom among clearing clearingWithin ageAt closedDays listed closedRefused risesFrom answer opened openRefusals ageOf enterRefusals obligationOf enteredAlone enteredWith enter deliverRefusals deliverRefusalsOf deliver fetchOutcome offerRefusals offerRefusalsIn offerRefusalsOf offer fits firstFit lowestFit settledSoFar cashOf moving close closeBy closeWords closeRefusals closeRefusalsIn again againWords againRefusals nextAfter nextWithin flat then written stages closedOne rowsUpTo linesUpTo fined accountsUpTo priced penalised noticeAt boughtOffer boughtAll buyInAt compensated compensatedAt isDue paidOut month monthRefusals overCollected fetched linesRead debited credited transferred
 rules = 0
 
 -- ---- journals of many days
@@ -79,10 +83,13 @@ opening-accepted = refl
 abbrev sold : ℕ → ℕ → Book
 sold q a = bookAfter (begun opening .book) (sale 0 1 q a)
 
--- the book of one obligation on a later day: today is that day, and this is the price of the Close at age = grace
+-- The book of one obligation on a later day: today is that day, and this is the price of the Close at age = grace. The book
+-- keeps the line of the latest Close, a penalty of 0 cents.
 abbrev onDay : ℕ → ℕ → Book → Book
 onDay today gracePrice b =
-    withDay (record { today = day today; «close_since» = true }) (withObligation 0 (withGracePrice gracePrice (obligationAt (b .ledger) 0)) (b .ledger)) b
+    let o = obligationAt (b .ledger) 0 in
+    withLast (keptFrom (plainLine penaltyKind 0 (o .parts .outstanding) 0 ∷ []))
+    (withDay (record { today = day today; «close_since» = true; «has_closed» = true }) (withObligation 0 (withGracePrice gracePrice o) (b .ledger)) b)
 
 -- what a journal shows that goes on from a book: the numbers so far, those of the calls that lead on, and the answers
 abbrev goesOn : List Call → List Call → List ℕ → Book → List ℕ
@@ -156,6 +163,59 @@ pub example-7 : deliversPlayed ≡ accepted 2 ++ threeCash
 unfolding rules
 example-7 = refl
 
+-- X8, Settled examples: the first of its two Months
+example-8 : monthPlayed twoSales ≡ accepted 5 ++ 0 ∷ 67 ∷ 33 ∷ 0 ∷ []
+unfolding rules
+example-8 = refl
+
+-- an accepted Month leaves the book with its accounts at zero
+month-leaves : (b : Book) (cs : List ℕ) (places : ℕ) → month b cs places .answer ≡ 0 → month b cs places .book ≡ monthBook b
+unfolding month
+month-leaves b cs places =
+    by-number (λ (r : Done). r .answer ≡ 0 → r .book ≡ monthBook b) (monthAnswer b cs places) _ (doneRefused b) (λ z e. absurd (z e)) (λ z e. refl)
+
+-- X11, Settled examples: the book of its sales after the Close, which is the book of the first Month of X8
+abbrev pub closedOnce : Book
+closedOnce = bookAfter (begun opening .book) (twoSales ++ closeAt 100000 10 ∷ [])
+
+-- a Month answers its number alone
+month-alone : (b : Book) → answerWithLines (eventOf b collecting) ≡ outcome b collecting .answer ∷ []
+unfolding flat linesRead tableFrom
+month-alone b = refl
+
+-- what the journal shows, where this is what the Month answers, and it leaves this book
+abbrev reprinted : List ℕ → Book → List ℕ
+reprinted answer b =
+    numbersOf (eventsOn (begun opening .book) twoSales)
+    ++ (answerWithLines (eventOf (bookAfter (begun opening .book) twoSales) (closeAt 100000 10)) ++ (answer ++ answersWithLines (eventsOn b (againLent ∷ []))))
+
+reprint-lines : reprinted (0 ∷ []) (monthBook closedOnce) ≡ accepted 4 ++ twoPenalties ++ (0 ∷ []) ++ twoPenalties
+unfolding rules
+reprint-lines = refl
+
+-- the Month is accepted, and this is the book after it
+accepted-month : outcome closedOnce collecting .answer ≡ 0
+accepted-month = ap (λ (l : List ℕ). getD l 5 0) example-8
+
+after-month : outcome closedOnce collecting .book ≡ monthBook closedOnce
+after-month = month-leaves closedOnce _ _ accepted-month
+
+pub example-11 : reprintPlayed ≡ accepted 4 ++ twoPenalties ++ (0 ∷ []) ++ twoPenalties
+example-11 = ap₂ reprinted (month-alone closedOnce ∙ ap (λ (n : ℕ). n ∷ []) accepted-month) after-month ∙ reprint-lines
+
+-- X11, Settled examples: how many lines an Again gives, and the cents of the first two lines that then stand in its list
+abbrev pub countAndCents : Book → List ℕ
+countAndCents b =
+    let words = againWords b (replicate 1152 0) in
+    again b 1152 .count ∷ getD words 3 0 ∷ getD words 9 0 ∷ []
+
+again-there : countAndCents (monthBook closedOnce) ≡ 2 ∷ 200 ∷ 100 ∷ []
+unfolding rules
+again-there = refl
+
+pub example-11-words : countAndCents (outcome closedOnce collecting .book) ≡ 2 ∷ 200 ∷ 100 ∷ []
+example-11-words = ap countAndCents after-month ∙ again-there
+
 -- X10, Settled examples: supplier, quantity and cents in the words of two lines of a Close, the second and the third
 abbrev pub twoBought : List ℕ → List ℕ
 twoBought words = getD words 10 0 ∷ getD words 8 0 ∷ getD words 9 0 ∷ getD words 16 0 ∷ getD words 14 0 ∷ getD words 15 0 ∷ []
@@ -177,4 +237,4 @@ example-10-words =
 pub settled : Every (λ r. r .computed ≡ r .settled) table
 unfolding rules
 settled =
-    also refl (also refl (also refl (also refl (also refl (also refl (also refl (also refl (also refl (also example-9 (also refl (also refl (also refl (also refl (also (example-3 .0) (also (example-3 .1) (also example-4 (also example-5 (also example-6 (also example-7 (also refl (also refl (also example-10 nobody))))))))))))))))))))))
+    also refl (also refl (also refl (also refl (also refl (also refl (also refl (also refl (also refl (also example-9 (also refl (also refl (also refl (also refl (also (example-3 .0) (also (example-3 .1) (also example-4 (also example-5 (also example-6 (also example-7 (also example-8 (also refl (also example-10 (also example-11 nobody)))))))))))))))))))))))

@@ -1,11 +1,11 @@
 -- The examples as journals: an Open, calls one after another on its book, and what they answer.
 use Prim.Native.Nat.{ℕ}
 use mathlib.Core.List.{List, [], _∷_, _++_}
-use lib.ListN.{take, replicate}
+use lib.ListN.{getD, take, replicate}
 use Rattle.calendar.specs.Closed.{day}
-use Rattle.closing.specs.Lines.{flat}
+use Rattle.closing.specs.Lines.{flat, linesRead}
 use Rattle.book.specs.declared.Book.{Book}
-use Rattle.journal.specs.Calls.{Opening, Call, enter, deliver, offer, close, month, Event}
+use Rattle.journal.specs.Calls.{Opening, Call, enter, deliver, offer, close, again, month, Event}
 use Rattle.journal.specs.Facts.{reported, factsOf}
 use Rattle.journal.specs.Played.{outcome, eventOf, begun}
 
@@ -44,6 +44,16 @@ answersOf (e ∷ later) = (e .answer ∷ e .results ++ flat (reported (factsOf (
 abbrev pub payoutsOf : List Event → List ℕ
 payoutsOf [] = []
 payoutsOf (e ∷ later) = (e .answer ∷ take 3 (e .words)) ++ payoutsOf later
+
+-- C11 and N2, Close and Again: the answer of a Close, an Again or a Month: its number and its results, and the words of the
+-- lines that stand in its list as it ends
+abbrev pub answerWithLines : Event → List ℕ
+answerWithLines e = e .answer ∷ e .results ++ flat (linesRead (getD (e .results) 0 0) (e .words))
+
+-- the answers of several of these calls
+abbrev pub answersWithLines : List Event → List ℕ
+answersWithLines [] = []
+answersWithLines (e ∷ later) = answerWithLines e ++ answersWithLines later
 
 -- what a journal shows: the numbers of the calls that lead to an example, and behind them what its own calls answer
 abbrev pub shown : (List Event → List ℕ) → List Call → List Call → List ℕ
@@ -116,3 +126,15 @@ auctionOffers = offer 0 1 7 101000 ∷ offer 0 2 5 100500 ∷ offer 0 3 7 101000
 -- X10, Settled examples: the offers come on the first day of the buy-in, and then that day's Close
 abbrev pub auctionPlayed : List ℕ
 auctionPlayed = shown answersOf (toBuyIn 100000) (auctionOffers ++ closeAt 100000 0 ∷ [])
+
+-- X11, Settled examples: member 3 sells 200 units to member 0 and 100 units to member 1, due on day 2
+abbrev pub twoSales : List Call
+twoSales = sale 3 0 200 1000 ++ sale 3 1 100 1000
+
+-- N1, Again: an Again that is lent 1,152 words
+abbrev pub againLent : Call
+againLent = again (replicate 1152 0)
+
+-- X11, Settled examples: the Close of that day, a Month, and an Again
+abbrev pub reprintPlayed : List ℕ
+reprintPlayed = shown answersWithLines twoSales (closeAt 100000 10 ∷ collecting ∷ againLent ∷ [])

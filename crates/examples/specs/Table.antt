@@ -15,7 +15,7 @@ use Rattle.offers.specs.declared.Offer.{Offer}
 use Rattle.offers.specs.declared.Given.{Given}
 use Rattle.offers.specs.Rank.{ranked}
 use Rattle.offers.specs.BuyIn.{given}
-use Rattle.examples.specs.Played.{accepted, sale, penaltyPlayed, compensationPlayed, capPlayed, matchPlayed, deliversPlayed, monthPlayed, auctionPlayed}
+use Rattle.examples.specs.Played.{accepted, sale, penaltyPlayed, compensationPlayed, capPlayed, matchPlayed, deliversPlayed, monthPlayed, auctionPlayed, reprintPlayed}
 
 -- a row of the table: the number of the example, what the definitions give, and what is settled
 pub record Row : Type 0 where
@@ -84,7 +84,11 @@ boughtInTwo =
     ++ (3 ∷ 0 ∷ 5 ∷ 2500 ∷ 2 ∷ 100500 ∷ [])
     ++ 3 ∷ 0 ∷ 5 ∷ 5000 ∷ 1 ∷ 101000 ∷ []
 
--- X1 to X10, Settled examples: first by the definitions that each example speaks of, then as calls after an Open
+-- C11, Close: the two lines of X11, a penalty of 200 cents and one of 100 cents, behind the answer number and their count
+abbrev pub twoPenalties : List ℕ
+twoPenalties = (0 ∷ 2 ∷ []) ++ (1 ∷ 0 ∷ 200 ∷ 200 ∷ 0 ∷ 0 ∷ []) ++ 1 ∷ 1 ∷ 100 ∷ 100 ∷ 0 ∷ 0 ∷ []
+
+-- X1 to X11, Settled examples: first by the definitions that each example speaks of, then as calls after an Open
 abbrev pub table : List Row
 table =
     record { item = 1; computed = penalty 1000 100000 10 ∷ []; settled = 1000 ∷ [] }
@@ -153,5 +157,10 @@ table =
       item = 10;
       computed = auctionPlayed;
       settled = accepted 16 ++ boughtInTwo;
+    }
+    ∷ record {
+      item = 11;
+      computed = reprintPlayed;
+      settled = accepted 4 ++ twoPenalties ++ (0 ∷ []) ++ twoPenalties;
     }
     ∷ []

@@ -190,7 +190,8 @@ fn main() {
     let played_differ = played::cap()
         + played::tolerance()
         + played::deliveries()
-        + played::auction();
+        + played::auction()
+        + played::reprint();
     io::print_decimal(STDOUT_FILENO, differ + played_differ);
     io::write_all(STDOUT_FILENO, b" answers differ from the settled ones\n");
 }

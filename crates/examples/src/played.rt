@@ -6,7 +6,7 @@ ghost use mathlib.Core.Path.{_≡_};
 ghost use mathlib.Core.List.{[], _∷_, _++_};
 ghost use Rattle.book.specs.Book.{Valid};
 ghost use Rattle.journal.specs.Played.{begun};
-ghost use Rattle.examples.specs.Played.{opening, bookAfter, sale, closeAt, daysPass, toBuyIn, accepted, matchPlayed};
+ghost use Rattle.examples.specs.Played.{opening, bookAfter, sale, closeAt, daysPass, toBuyIn, accepted, matchPlayed, twoSales};
 ghost use Rattle.examples.specs.Table.{oneOfThree};
 
 // The book of an Open on day 2, without closed days and by terms 1.
@@ -19,15 +19,24 @@ fn opened() -> Book
     opened.book
 }
 
-// That book with a sale of member 0 to member 1, due on day 2.
+// A book with a sale, due on day 2.
+fn with_sale(book: Book, seller: u64, buyer: u64, quantity: u64, amount: u64) -> Book
+    requires { ⌜ Valid book ⌝ }
+    ensures { λ r. ⌜ r ≡ bookAfter book (sale seller buyer quantity amount) ⌝ }
+    ensures { λ r. ⌜ Valid r ⌝ }
+{
+    let delivers = book.enter(seller, buyer, 0, quantity, amount, Day(2));
+    let one = delivers.book;
+    let receives = one.enter(buyer, seller, 1, quantity, amount, Day(2));
+    receives.book
+}
+
+// The book of the Open with a sale of member 0 to member 1.
 fn sold(quantity: u64, amount: u64) -> Book
     ensures { λ r. ⌜ r ≡ bookAfter (begun opening .book) (sale 0 1 quantity amount) ⌝ }
     ensures { λ r. ⌜ Valid r ⌝ }
 {
-    let delivers = opened().enter(0, 1, 0, quantity, amount, Day(2));
-    let one = delivers.book;
-    let receives = one.enter(1, 0, 1, quantity, amount, Day(2));
-    receives.book
+    with_sale(opened(), 0, 1, quantity, amount)
 }
 
 // A Close without penalties, which ends the day.
@@ -131,4 +140,29 @@ pub fn auction() -> u64
         + compared(10, lines[16], 1)
         + compared(10, lines[14], 5)
         + compared(10, lines[15], 5_000)
+}
+
+// The book of the Open with two sales of member 3, after the Close of their day.
+fn closed_once() -> Book
+    ensures { λ r. ⌜ r ≡ bookAfter (begun opening .book) (twoSales ++ closeAt 100000 10 ∷ []) ⌝ }
+    ensures { λ r. ⌜ Valid r ⌝ }
+{
+    let sold = with_sale(with_sale(opened(), 3, 0, 200, 1_000), 3, 1, 100, 1_000);
+    let mut lines = [0u64; 1152];
+    let closed = sold.close(100_000, 10, &mut lines);
+    closed.book
+}
+
+// Example 11: a Close with two lines, a Month, and an Again, which gives the same two lines.
+pub fn reprint() -> u64
+    ensures { λ r. ⌜ r ≡ 0 ⌝ }
+{
+    let mut collected = [0u64; 32];
+    collected[3] = 100;
+    let mut payouts = [7u64; 32];
+    let paid = closed_once().month(&collected, &mut payouts);
+    let after = paid.book;
+    let mut lines = [0u64; 1152];
+    let shown = after.again(&mut lines);
+    compared(11, shown.count as u64, 2) + compared(11, lines[3], 200) + compared(11, lines[9], 100)
 }

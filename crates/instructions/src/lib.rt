@@ -2,8 +2,9 @@
 use calendar::Day;
 ghost use mathlib.Core.Path.{_≡_};
 ghost use Prim.Native.Nat.{_≤_, _<_};
-ghost use Rattle.instructions.specs.Legs.{mostLegs, isWaiting, legOf, Fitting, noLegs, inState, fetchedLeg, withState, withLeg};
+ghost use Rattle.instructions.specs.Legs.{mostLegs, isWaiting, legOf, Fitting, noLegs, inState, fetchedLeg, withState};
 ghost use Rattle.instructions.specs.Match.{delivering, receiving, membersCross, sameBusiness, fits, lowestFit};
+ghost use Rattle.instructions.specs.Entry.{entryOf, withEntry, Enterable, legNumber, obligationNumber};
 
 // The most legs of a book; `mostLegs` in specs/.
 pub const MOST_LEGS: usize = 128;
@@ -54,6 +55,13 @@ pub enum FetchedLeg {
 pub enum Fit {
     With(u64),
     Nobody,
+}
+
+// What an Enter comes to: it is refused, its leg finds no match and waits, or its leg matches the leg with a number.
+pub enum Entry {
+    Refused,
+    Alone(Leg),
+    Matching(Leg, u64),
 }
 
 // A place that no leg has taken holds this leg. It is withdrawn, so that it matches nothing.
@@ -193,19 +201,6 @@ impl Legs {
         self
     }
 
-    // Adds a leg, which gets the next number.
-    pub fn add(mut self, leg: Leg) -> Legs
-        requires { ⌜ self .count < mostLegs ⌝ }
-        ensures { λ r. ⌜ r ≡ withLeg leg self ⌝ }
-    {
-        let i = self.count;
-        let mut rows = self.rows;
-        rows[i] = leg;
-        self.rows = rows;
-        self.count = i + 1;
-        self
-    }
-
     // Finds the lowest leg that a new one matches.
     pub fn lowest_fit(self, new: Leg) -> Fit
         requires { ⌜ self .count ≤ mostLegs ⌝ }
@@ -222,5 +217,72 @@ impl Legs {
             i += 1;
         }
         Fit::Nobody
+    }
+
+    // What an Enter with this answer number comes to.
+    pub fn entry(self, number: u64, asked: Instruction) -> Entry
+        requires { ⌜ (self .count ≤ mostLegs) × (number ≡ 0 → Fitting asked) ⌝ }
+        ensures { λ r. ⌜ r ≡ entryOf self number asked ⌝ }
+    {
+        if number != 0 {
+            return Entry::Refused;
+        }
+        let new = asked.leg();
+        match self.lowest_fit(new) {
+            Fit::With(k) => Entry::Matching(new, k),
+            Fit::Nobody => Entry::Alone(new),
+        }
+    }
+
+    // The legs after an Enter, whose obligation has this number if there is a match.
+    pub fn enter(mut self, entry: Entry, obligation: u64) -> Legs
+        requires { ⌜ (Enterable entry self) × (obligation ≤ 255) ⌝ }
+        ensures { λ r. ⌜ r ≡ withEntry entry obligation self ⌝ }
+    {
+        let mut rows = self.rows;
+        let mut count = self.count;
+        match entry {
+            Entry::Refused => {}
+            Entry::Alone(new) => {
+                rows[count] = new;
+                count += 1;
+            }
+            Entry::Matching(new, k) => {
+                let state = LegState::Matched(obligation as u8);
+                let i = k as usize;
+                let old = rows[i];
+                rows[i] = old.in_state(state);
+                rows[count] = new.in_state(state);
+                count += 1;
+            }
+        }
+        self.rows = rows;
+        self.count = count;
+        self
+    }
+}
+
+impl Entry {
+    // The number of the new leg, where there were so many legs before; 0 if the Enter is refused.
+    pub fn leg_number(self, legs: u64) -> u64
+        ensures { λ r. ⌜ r ≡ legNumber self legs ⌝ }
+    {
+        match self {
+            Entry::Refused => 0,
+            Entry::Alone(_) => legs,
+            Entry::Matching(_, _) => legs,
+        }
+    }
+
+    // The number of the new obligation plus 1, where there were so many obligations before; 0 if there is no new one.
+    pub fn obligation_number(self, obligations: u64) -> u64
+        requires { ⌜ obligations ≤ 255 ⌝ }
+        ensures { λ r. ⌜ r ≡ obligationNumber self obligations ⌝ }
+    {
+        match self {
+            Entry::Refused => 0,
+            Entry::Alone(_) => 0,
+            Entry::Matching(_, _) => obligations + 1,
+        }
     }
 }

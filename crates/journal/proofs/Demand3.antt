@@ -34,7 +34,7 @@ use Rattle.journal.specs.Calls.{Opening, Call, Run}
 use Rattle.journal.specs.Played.{Outcome, ofDone, ofEntered, ofCancelled, ofDelivered, ofClosed, ofPaid, after, played, callsOf}
 use Rattle.journal.specs.Facts.{Instructed}
 use Rattle.journal.specs.Sums.{instructedIn}
-use Rattle.journal.specs.Promise.{StatusShows, AccountShows, LookShows, EveryMonth, EveryBuyIn, EveryCapPrice}
+use Rattle.journal.specs.Promise.{StatusShows, AccountShows, LookShows, AgainShows, EveryMonth, EveryBuyIn, EveryCapPrice}
 
 -- J1, Whole journals: a call on a book with any arguments and any lent lists, and what came of it. The result, and the lent
 -- lists as the call ended, are any that the contract of the function allows.
@@ -51,6 +51,8 @@ pub data Called (b : Book) : Call → Outcome → Type 0 where
       code.offer.Reads.Learnt tt (b, (n, (supplier, (q, (price, tt))))) r x → Called b (Call.offer n supplier q price) (ofDone r)
   closed : (κs : Lfts 1) (price rate : ℕ) (lines : RefT (List ℕ)) (r : Closed) (x : _) →
       code.close.Reads.Learnt κs (b, (price, (rate, (lines, tt)))) r x → Called b (Call.close price rate (now lines)) (ofClosed r (now (x .1 .1 .1 .0)))
+  repeated : (κs : Lfts 1) (lines : RefT (List ℕ)) (r : Closed) (x : _) →
+      code.again.Reads.Learnt κs (b, (lines, tt)) r x → Called b (Call.again (now lines)) (ofClosed r (now (x .1 .0)))
   settled : (κs : Lfts 2) (collected payouts : RefT (List ℕ)) (r : Done) (x : _) →
       code.month.Reads.Learnt κs (b, (collected, (payouts, tt))) r x →
       Called b (Call.month (now collected) (now payouts)) (ofPaid r (now (x .1 .1 .0)) (now (x .1 .0)))
@@ -74,6 +76,7 @@ May b (Call.cancel n member) = code.cancel.Reads.Asked tt (b, (n, (member, tt)))
 May b (Call.deliver n q) = code.deliver.Reads.Asked tt (b, (n, (q, tt)))
 May b (Call.offer n supplier q price) = code.offer.Reads.Asked tt (b, (n, (supplier, (q, (price, tt)))))
 May b (Call.close price rate lines) = (κs : Lfts 1) (ls : RefT (List ℕ)) → code.close.Reads.Asked κs (b, (price, (rate, (ls, tt))))
+May b (Call.again lines) = (κs : Lfts 1) (ls : RefT (List ℕ)) → code.again.Reads.Asked κs (b, (ls, tt))
 May b (Call.month collected payouts) = (κs : Lfts 2) (cs ps : RefT (List ℕ)) → code.month.Reads.Asked κs (b, (cs, (ps, tt)))
 
 -- Status was called on a book, and answered what its contract allows
@@ -87,6 +90,10 @@ pub data AccountCalled (b : Book) (m : ℕ) (t : Balance) : Type 0 where
 -- Look was called on a book, and answered what its contract allows
 pub data LookCalled (b : Book) (m : ℕ) (t : Looked) : Type 0 where
   called : (x : _) → code.look.Reads.Learnt tt (b, (m, tt)) t x → LookCalled b m t
+
+-- Again was called on a book with the words ws lent, and answered what its contract allows; the words then are us
+pub data AgainCalled (b : Book) : List ℕ → Closed → List ℕ → Type 0 where
+  called : (κs : Lfts 1) (lines : RefT (List ℕ)) (t : Closed) (x : _) → code.again.Reads.Learnt κs (b, (lines, tt)) t x → AgainCalled b (now lines) t (now (x .1 .0))
 
 -- G3, Promises: what is promised of a run
 pub record Promise (s : Run) : Type 1 where
@@ -103,6 +110,8 @@ pub record Promise (s : Run) : Type 1 where
       balance (table 32 (λ m. t m .cents)) ≡ pos 0
   -- L3: Look, called after the list, of each member
   pub look : (m : ℕ) → m < 32 → (t : Looked) → LookCalled (s .book) m t → LookShows (s .opening) (s .past) m t
+  -- J16: Again, called after the list with any lent list, gives what the latest accepted Close gave
+  pub again : (ws us : List ℕ) (t : Closed) → AgainCalled (s .book) ws t us → AgainShows (s .past) ws us t
   -- J13 and J14: each accepted Month pays out just what it collected, and each creditor gets its share
   pub months : EveryMonth (s .past)
   -- C7 and C8: at each accepted Close the offers for each obligation in its buy-in days give in their turns
@@ -146,6 +155,7 @@ pub record Demand3 (M : Type 1) : Type 2 where
   pub deliver-code : Code M code.deliver.Statement.statement 0 code.deliver.Kinds.ps code.deliver.Kinds.r code.deliver.Symbol.routine code.deliver.Reads.Asked code.deliver.Reads.Learnt
   pub offer-code : Code M code.offer.Statement.statement 0 code.offer.Kinds.ps code.offer.Kinds.r code.offer.Symbol.routine code.offer.Reads.Asked code.offer.Reads.Learnt
   pub close-code : Code M code.close.Statement.statement 1 code.close.Kinds.ps code.close.Kinds.r code.close.Symbol.routine code.close.Reads.Asked code.close.Reads.Learnt
+  pub again-code : Code M code.again.Statement.statement 1 code.again.Kinds.ps code.again.Kinds.r code.again.Symbol.routine code.again.Reads.Asked code.again.Reads.Learnt
   pub month-code : Code M code.month.Statement.statement 2 code.month.Kinds.ps code.month.Kinds.r code.month.Symbol.routine code.month.Reads.Asked code.month.Reads.Learnt
   pub status-code : Code M code.status.Statement.statement 0 code.status.Kinds.ps code.status.Kinds.r code.status.Symbol.routine code.status.Reads.Asked code.status.Reads.Learnt
   pub account-code : Code M code.account.Statement.statement 0 code.account.Kinds.ps code.account.Kinds.r code.account.Symbol.routine code.account.Reads.Asked code.account.Reads.Learnt

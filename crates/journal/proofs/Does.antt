@@ -1,11 +1,12 @@
 -- What a call does: one record for all that is proved of it, and what holds of a call that changes legs or offers alone.
-use Prim.Native.Nat.{ℕ, _≤_}
+use Prim.Native.Nat.{ℕ, _*_, _≤_}
 use native.Mathlib.Omega.{arith}
 use mathlib.Core.Path.{_≡_, refl}
 use mathlib.Core.Bool.{true, false}
 use mathlib.Core.List.{List, [], _++_}
 use mathlib.Core.Option.{none, some}
 use lib.Dec.{eqb}
+use lib.ListN.{length}
 use borrow.Author.Tests.{ne-eqb}
 use Rattle.basics.specs.Choice.{pick}
 use Rattle.calendar.specs.declared.Day.{Day}
@@ -14,6 +15,7 @@ use Rattle.offers.specs.declared.Offer.{Offer}
 use Rattle.offers.specs.Rank.{ranked}
 use Rattle.offers.specs.Held.{listed}
 use Rattle.instructions.specs.Legs.{entered}
+use Rattle.reprint.specs.Kept.{keptFrom}
 use Rattle.payments.specs.Month.{payoutsOf}
 use Rattle.book.specs.declared.Book.{Book}
 use Rattle.book.specs.Book.{Valid}
@@ -21,7 +23,7 @@ use Rattle.book.specs.Close.{nextDay, linesOf}
 use Rattle.book.specs.Month.{monthAnswer}
 use Rattle.journal.specs.Calls.{Call}
 use Rattle.journal.specs.Played.{Outcome, eventWith}
-use Rattle.journal.specs.Facts.{LegChange, neither, Instructed, instructs, Ended, isEnd, priceOf, Facts, noFacts, factsOf, facts}
+use Rattle.journal.specs.Facts.{LegChange, neither, Instructed, instructs, Ended, isEnd, reported, priceOf, Facts, noFacts, factsOf, facts}
 use Rattle.journal.specs.Sums.{isMonth}
 use Rattle.journal.specs.History.{legsAfter}
 use Rattle.journal.proofs.Moves.{Moves}
@@ -32,6 +34,8 @@ use Rattle.journal.proofs.RecalledRows.{RowsLeft, rows-same}
 -- what a call leaves of what a book stores: b is the book before it, after the book behind it, f what its event says
 pub record Leaves (b after : Book) (f : Facts) : Type 0 where
   pub close-since : after .day .«close_since» ≡ pick (isEnd (f .ends)) true (pick (isMonth (f .collects)) false (b .day .«close_since»))
+  pub has-closed : after .day .«has_closed» ≡ pick (isEnd (f .ends)) true (b .day .«has_closed»)
+  pub last : after .last ≡ pick (isEnd (f .ends)) (keptFrom (reported (f .ends))) (b .last)
   pub rows : RowsLeft b after (isEnd (f .ends)) (priceOf (f .ends)) (f .wishes)
   pub offers : (xs : List Offer) → listed (b .ledger .offers) ≡ ranked xs → listed (after .ledger .offers) ≡ ranked (pick (isEnd (f .ends)) [] (f .offers ++ xs))
   pub legs : entered (after .legs) ≡ legsAfter (f .legs) (entered (b .legs))
@@ -61,6 +65,8 @@ pub record Does (b after : Book) (f : Facts) (words : List ℕ) : Type 0 where
   pub due : (n : ℕ) (i : Instructed) → instructs n (f .legs) ≡ some i → b .day .today .0 ≤ i .day .0
   pub closes : (d : Ended) → f .ends ≡ some d → Closes b f d
   pub pays : (cs : List ℕ) → f .collects ≡ some cs → Pays b cs words
+  -- the lines that it reported are within the list
+  pub fits : 6 * length (reported (f .ends)) ≤ length words
 
 -- a call with what came of it
 abbrev pub DoesAs : Book → Call → Outcome → Type 0
@@ -78,14 +84,17 @@ does-plain b after c xs words m l h = record {
   due = h;
   closes = λ d e. absurd (no-some e);
   pays = λ cs e. absurd (no-some e);
+  fits = omega arith;
 }
 
 -- ---- a call that says nothing
 pub does-nothing : (b after : Book) (words : List ℕ) → Valid after → after .setup ≡ b .setup → after .day ≡ b .day →
-    after .legs ≡ b .legs → after .ledger ≡ b .ledger → Does b after noFacts words
-does-nothing b after words v setup day legs ledger =
+    after .legs ≡ b .legs → after .ledger ≡ b .ledger → after .last ≡ b .last → Does b after noFacts words
+does-nothing b after words v setup day legs ledger last =
     does-plain b after neither [] words (moves-nothing b after neither [] v setup (rw day) (rw ledger) (rw ledger) (rw ledger) (λ n. refl)) (record {
       close-since = rw day;
+      has-closed = rw day;
+      last = last;
       rows = rows-same b after (rw ledger) (rw ledger);
       offers = λ xs e. rw ledger e;
       legs = rw legs;
@@ -94,4 +103,4 @@ does-nothing b after words v setup day legs ledger =
 
 -- a refused call does nothing
 pub refused-does : (b : Book) → Valid b → (c : Call) (n : ℕ) (rs ws : List ℕ) → (n ≡ 0 → ⊥) → Does b b (pick (eqb n 0) (factsOf c rs ws) noFacts) ws
-refused-does b v c n rs ws z = rw (ne-eqb n 0 z) (does-nothing b b ws v refl refl refl refl)
+refused-does b v c n rs ws z = rw (ne-eqb n 0 z) (does-nothing b b ws v refl refl refl refl refl)

@@ -31,6 +31,7 @@ use Rattle.ledger.specs.Obligations.{withWish, bothWish, moving, wishing, moved
 use Rattle.ledger.specs.Ledger.{obligationAt, withObligation}
 use Rattle.ledger.proofs.Moving.{part-by, part-moved}
 use Rattle.ledger.proofs.Keeping.{Later, moving-later, wishing-later}
+use Rattle.closing.proofs.Lines.{lines-back, written-fits}
 use Rattle.refusals.specs.Refusals.{answer}
 use Rattle.refusals.specs.Calls.{badRates, enterRefusals, cancelRefusalsOf, closeRefusalsIn}
 use Rattle.refusals.proofs.Refusals.{passed, by-number, by-number₂}
@@ -57,11 +58,10 @@ use Rattle.journal.specs.Facts.{enters, withdraws, neither, Instructed, 
 use Rattle.journal.specs.History.{legIntoState}
 use Rattle.journal.proofs.Moves.{instructedFrom, instructedAt, Shift}
 use Rattle.journal.proofs.Steps.{shift-none, moves-nothing, moves-one, moves-more}
-use Rattle.journal.proofs.Reported.{lines-back}
 use Rattle.journal.proofs.Turns.{moves-close, moves-month}
 use Rattle.journal.proofs.RecalledRows.{RowsLeft, rows-same, rows-one, rows-wished, rows-more}
 use Rattle.journal.proofs.RecalledCloses.{rows-closed}
-use Rattle.journal.proofs.Does.{Does, DoesAs, no-some, does-plain, refused-does}
+use Rattle.journal.proofs.Does.{Does, DoesAs, no-some, does-plain, does-nothing, refused-does}
 
 -- ---- what a wish and a delivery move between the parts
 -- a quantity that moves to a part
@@ -116,6 +116,8 @@ module _ (b : Book) (v : Valid b) where
       (λ i z w. refused-does b v (Call.withdraw leg member) i [] [] z)
       (λ h w. does-plain b _ (withdraws leg) [] [] (moves-nothing b _ (withdraws leg) [] w refl refl refl refl refl (λ n. refl)) (record {
         close-since = refl;
+        has-closed = refl;
+        last = refl;
         rows = rows-same b _ refl refl;
         offers = λ xs q. q;
         legs = entered-into leg Withdrawn h;
@@ -159,6 +161,8 @@ module _ (b : Book) (v : Valid b) where
       let nobody : (n : ℕ) → instructs n (enters (b .legs .count) 0 new) ≡ none = λ n. rw (ne-eqb 0 (n + 1) (λ z. absurd (omega arith))) in
       does-plain b _ (enters (b .legs .count) 0 new) [] [] (moves-nothing b _ (enters (b .legs .count) 0 new) [] w refl refl refl refl refl nobody) (record {
         close-since = refl;
+        has-closed = refl;
+        last = refl;
         rows = rows-same b _ refl refl;
         offers = λ xs p. p;
         legs = rw e (entered-with (b .legs) (v .legs) new (g .room));
@@ -175,6 +179,8 @@ module _ (b : Book) (v : Valid b) where
       does-plain b _ (enters (b .legs .count) (n + 1) new) [] []
       (moves-more b v legs (obligationOf new old) room (fresh-parts new old) (b .legs .count) new (made-instructed new old (f .1)) w) (record {
         close-since = refl;
+        has-closed = refl;
+        last = refl;
         rows = rows-more b v legs (obligationOf new old) room refl refl refl;
         offers = λ xs p. p;
         legs = rw (e, number)
@@ -200,10 +206,11 @@ module _ (b : Book) (v : Valid b) where
       Does b (withLedger (withObligation n r (b .ledger)) b) (onlyMoves f w) []
   row-does n r h f w later shift only rows v' = record {
     moves = moves-one b v n r h f w later shift only v';
-    leaves = record { close-since = refl; rows = rows; offers = λ xs p. p; legs = refl; proper = tt };
+    leaves = record { close-since = refl; has-closed = refl; last = refl; rows = rows; offers = λ xs p. p; legs = refl; proper = tt };
     due = λ k i e. absurd (no-some e);
     closes = λ d e. absurd (no-some e);
     pays = λ cs e. absurd (no-some e);
+    fits = omega arith;
   }
 
   deliver-does : (n q : ℕ) → Valid (outcome b (Call.deliver n q) .book) → DoesAs b (Call.deliver n q) (outcome b (Call.deliver n q))
@@ -236,6 +243,8 @@ module _ (b : Book) (v : Valid b) where
       (λ h e f w. does-plain b _ neither (record { obligation = n; supplier = supplier; quantity = q; price = price } ∷ []) []
       (moves-nothing b _ neither _ w refl refl refl refl refl (λ k. refl)) (record {
         close-since = refl;
+        has-closed = refl;
+        last = refl;
         rows = rows-same b _ refl refl;
         offers = λ xs p. ranked-with (b .ledger .offers) _ (offers-few _ _ _ _ _ _ f) (v .ledger .offers .size) xs p;
         legs = refl;
@@ -259,6 +268,8 @@ module _ (b : Book) (v : Valid b) where
         moves = moves-close b v price rate (g .price-most) (g .rate-most) next q;
         leaves = record {
           close-since = refl;
+          has-closed = refl;
+          last = refl;
           rows = rows-closed b v price rate (g .price-most) (g .rate-most) next;
           offers = λ xs p. listed-none;
           legs = refl;
@@ -268,7 +279,15 @@ module _ (b : Book) (v : Valid b) where
         closes = λ d s. let same : record { price = price; lines = linesOf b price rate } ≡ d = cc in
             rw (← same) (record { rate = rate; lines = refl; price = some-price price rate (length ws) e; next = next; on = q; legs = refl });
         pays = λ cs e. absurd (no-some e);
+        fits = written-fits (linesOf b price rate) ws;
       }))
+
+  -- ---- Again
+  again-does : (ws : List ℕ) → DoesAs b (Call.again ws) (outcome b (Call.again ws))
+  again-does ws =
+      laws.Outcomes.again-case b (λ (x : Closed) (us : List ℕ). DoesAs b (Call.again ws) (ofClosed x us)) ws
+      (λ i z. refused-does b v (Call.again ws) i (0 ∷ []) ws z)
+      (λ e. does-nothing b b _ v refl refl refl refl refl)
 
   -- ---- Month
   month-does : (cs ps : List ℕ) → DoesAs b (Call.month cs ps) (outcome b (Call.month cs ps))
@@ -279,10 +298,11 @@ module _ (b : Book) (v : Valid b) where
       (λ z. refused-does b v (Call.month cs ps) (monthAnswer b cs (length ps)) [] ps z)
       (λ e. record {
         moves = moves-month b v cs;
-        leaves = record { close-since = refl; rows = rows-same b (monthBook b) refl refl; offers = λ xs p. p; legs = refl; proper = tt };
+        leaves = record { close-since = refl; has-closed = refl; last = refl; rows = rows-same b (monthBook b) refl refl; offers = λ xs p. p; legs = refl; proper = tt };
         due = λ n i e. absurd (no-some e);
         closes = λ d e. absurd (no-some e);
         pays = λ ds s. let same : cs ≡ ds = cc in rw (← same) (record { places = length ps; accepted = e; payouts = refl });
+        fits = omega arith;
       })
 
   pub call-does : (c : Call) → DoesAs b c (outcome b c)
@@ -292,4 +312,5 @@ module _ (b : Book) (v : Valid b) where
   call-does (Call.deliver n q) = deliver-does n q (laws.Kept.deliver-valid b v n q)
   call-does (Call.offer n supplier q price) = offer-does n supplier q price (laws.Kept.offer-valid b v n supplier q price)
   call-does (Call.close price rate ws) = close-does price rate ws
+  call-does (Call.again ws) = again-does ws
   call-does (Call.month cs ps) = month-does cs ps

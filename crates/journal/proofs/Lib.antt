@@ -3,8 +3,8 @@
 -- run that the book holds just what the events say. The rest leads there: Reported and Penalties (the lines of a Close),
 -- Moves, Steps and Turns (what moves from book to book), Does and Every (all that each call does), Months (what a Month
 -- pays), Model (book and events agree after every list of calls), Recalling and its parts (the book stores what the events
--- tell), CapPrices (the price for the cap is there), BuyIns (the offers give in their turns), and Showing (what Status,
--- Account and Look show).
+-- tell), CapPrices (the price for the cap is there), BuyIns (the offers give in their turns), Showing (what Status,
+-- Account and Look show) and Reprints (what Again shows).
 pub mod Demand3
 pub mod Theorem
 pub mod Recalled
@@ -24,3 +24,4 @@ pub mod Recalling
 pub mod CapPrices
 pub mod BuyIns
 pub mod Showing
+pub mod Reprints

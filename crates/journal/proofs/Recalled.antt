@@ -1,7 +1,7 @@
 -- What every book remembers of its journal: `remembered` at the end.
 use Prim.Native.Nat.{ℕ, _≤_, _<_}
 use native.Mathlib.Omega.{arith}
-use mathlib.Core.Path.{_≡_, refl, sym, ap, subst⁻¹, _∙_}
+use mathlib.Core.Path.{_≡_, refl, sym, ap, _∙_}
 use mathlib.Core.Bool.{true, false}
 use mathlib.Core.List.{List}
 use mathlib.Core.Option.{none, some}
@@ -15,11 +15,11 @@ use Rattle.instructions.specs.declared.Leg.{Leg}
 use Rattle.instructions.specs.declared.LegState.the-variants.{Waiting}
 use Rattle.instructions.specs.Legs.{isWaiting, noLeg, inState, legAt, entered}
 use Rattle.ledger.specs.Ledger.{obligationAt}
+use Rattle.reprint.specs.Kept.{keptFrom}
 use Rattle.book.specs.Book.{ageOf}
 use Rattle.journal.specs.Calls.{Run}
-use Rattle.journal.specs.Played.{callsOf}
 use Rattle.journal.specs.Sums.{todayIn, instructedIn}
-use Rattle.journal.specs.History.{closeSinceIn, gracePriceIn, offersIn, wishedIn, legsIn, legIn, waitingIn}
+use Rattle.journal.specs.History.{closeSinceIn, latestClose, wasClose, latestLines, gracePriceIn, offersIn, wishedIn, legsIn, legIn, waitingIn}
 use Rattle.journal.specs.Promise.{EveryCapPrice}
 use Rattle.journal.proofs.Moves.{instructedAt, Agrees}
 use Rattle.journal.proofs.CapPrices.{known-capped}
@@ -27,7 +27,7 @@ use Rattle.journal.proofs.Model.{Known}
 use Rattle.journal.proofs.Demand3.{Ran}
 use Rattle.journal.proofs.Theorem.{known}
 use Rattle.journal.proofs.Every.{entered-length, entered-at}
-use Rattle.journal.proofs.Recalling.{RunRecalls, played-recalls}
+use Rattle.journal.proofs.Recalling.{RunRecalls, known-recalls}
 
 -- What the rules word by what happened before: each thing of this kind that a book stores is what its Open and events tell.
 pub record Remembered (s : Run) : Type 0 where
@@ -35,6 +35,9 @@ pub record Remembered (s : Run) : Type 0 where
   pub today : s .book .day .today ≡ todayIn (s .opening) (s .past)
   -- R21, Refusals: whether a Close was accepted since Open or since the last accepted Month
   pub close-since : s .book .day .«close_since» ≡ closeSinceIn (s .past)
+  -- R22, Refusals, and N2, Again: whether a Close was accepted since Open, and the lines of the latest one
+  pub has-closed : s .book .day .«has_closed» ≡ wasClose (latestClose (s .past))
+  pub last : s .book .last ≡ keptFrom (latestLines (latestClose (s .past)))
   -- B9, Buy-in: the price of the Close at age = grace, where something is outstanding
   pub grace-price : (n : ℕ) → n < s .book .ledger .count → 0 < obligationAt (s .book .ledger) n .parts .outstanding →
       obligationAt (s .book .ledger) n .stage .«grace_price» ≡ gracePriceIn (s .opening) n (s .past)
@@ -68,6 +71,8 @@ told s g k p =
     record {
       today = g .today;
       close-since = k .close-since;
+      has-closed = k .has-closed;
+      last = k .last;
       grace-price = λ n h left. rw (there n h) at (k .prices n (λ z. left));
       cap-price = λ n h left old.
           let price = rw (there n h) at (k .prices n (λ z. left)) in
@@ -90,7 +95,7 @@ told s g k p =
 
 -- of every run that is known, and so of every run of the functions
 pub known-remembered : (s : Run) → Known s → Remembered s
-known-remembered s k = told s (k .agrees) (subst⁻¹ RunRecalls (k .answered) (played-recalls (s .opening) (callsOf (s .past)))) (known-capped s k)
+known-remembered s k = told s (k .agrees) (known-recalls s k) (known-capped s k)
 
 pub remembered : (s : Run) → Ran s → Remembered s
 remembered s ran = known-remembered s (known ran)

@@ -8,7 +8,7 @@ use mathlib.Core.Logic.{⊎-elim}
 use mathlib.Core.List.{List, [], _∷_, _++_, append-nil}
 use mathlib.Core.Option.{some}
 use lib.Dec.{eqb}
-use lib.ListN.{length, getD, drop}
+use lib.ListN.{getD}
 use borrow.Author.Tests.{eq-eqb, ne-eqb}
 use Rattle.basics.specs.Choice.{pick}
 use Rattle.basics.specs.Lists.{total, Every}
@@ -29,11 +29,11 @@ use Rattle.ledger.specs.declared.Obligation.{Obligation}
 use Rattle.ledger.specs.Obligations.{noObligation, isDue, inBuyIn, moving}
 use Rattle.closing.specs.declared.DayEnd.{DayEnd}
 use Rattle.closing.specs.declared.Line.{Line}
-use Rattle.closing.specs.Lines.{penaltyKind, noticeKind, flat, written, Made, nothing, then}
+use Rattle.closing.specs.Lines.{penaltyKind, noticeKind, Made, nothing, then}
 use Rattle.closing.specs.Stages.{plainLine, priced, penalised, noticeAt, boughtFrom, boughtAll, buyInAt, compensated, compensatedAt}
 use Rattle.closing.specs.Close.{stages, closedOne, closedAt, linesUpTo}
 use Rattle.closing.proofs.Parts.{priced-parts}
-use Rattle.journal.specs.Facts.{linesRead, partOfKind, isPart, quantityTo}
+use Rattle.journal.specs.Facts.{partOfKind, isPart, quantityTo}
 use Rattle.calendar.specs.Closed.{listed as closedListed}
 use Rattle.journal.specs.Promise.{Purchase, purchasesIn}
 
@@ -244,14 +244,3 @@ module _ (d : DayEnd) (offers : List Offer) (os : List Obligation) where
 
   pub purchases-one : (n k : ℕ) → k < n → purchasesIn k (linesUpTo d offers os n) ≡ purchasesIn k (closedAt d offers os k .lines)
   purchases-one n k h = purchases-own k (linesUpTo d offers os n) ∙ rw (own-lines n k h)
-
--- ---- the words of lines
-flat-back : (ls : List Line) (ws : List ℕ) → linesRead (length ls) (flat ls ++ ws) ≡ ls
-unfolding linesRead flat
-flat-back [] ws = refl
-flat-back (l ∷ ls) ws = ap (λ (ms : List Line). l ∷ ms) (flat-back ls ws)
-
--- lines written at the front of a list are read back, whatever stands behind them
-pub lines-back : (ls : List Line) (ws : List ℕ) → linesRead (length ls) (written ls ws) ≡ ls
-unfolding written
-lines-back ls ws = flat-back ls (drop (length (flat ls)) ws)

@@ -15,6 +15,8 @@ use Rattle.journal.proofs.Model.{Known, begun-known, step-known, played
 use Rattle.journal.proofs.CapPrices.{known-capped}
 use Rattle.journal.proofs.BuyIns.{known-bought}
 use Rattle.journal.proofs.Showing.{status-shows, account-shows, all-shown, look-shows, status-learnt, account-learnt, look-learnt}
+use Rattle.journal.proofs.Recalling.{known-recalls}
+use Rattle.journal.proofs.Reprints.{again-shows, again-learnt}
 use Rattle.journal.proofs.Demand3.{Called, Ran, May, Promise, Demand3}
 
 -- ---- by its contract, a call answers what the rules give
@@ -25,6 +27,7 @@ called-is (Called.cancelled n member r x h) = ap ofCancelled (h .0)
 called-is (Called.delivered n q r x h) = ap ofDelivered (h .0)
 called-is (Called.offered n supplier q price r x h) = ap ofDone (h .0)
 called-is (Called.closed κs price rate lines r x h) = ap₂ ofClosed (h .0) (h .1 .0)
+called-is (Called.repeated κs lines r x h) = ap₂ ofClosed (h .0) (h .1 .0)
 called-is (Called.settled κs collected payouts r x h) =
     λ i. record { answer = h .0 i .answer; results = []; words = h .1 .0 i; kept = h .1 .1 .1 i; book = h .0 i .book }
 
@@ -44,6 +47,7 @@ may b v (Call.cancel n member) = v
 may b v (Call.deliver n q) = v
 may b v (Call.offer n supplier q price) = v
 may b v (Call.close price rate lines) = λ κs ls. v
+may b v (Call.again lines) = λ κs ls. v
 may b v (Call.month collected payouts) = λ κs cs ps. v
 
 promised : (s : Run) → Ran s → Promise s
@@ -57,6 +61,7 @@ promised s ran =
       account = λ m h t c. account-shows (s .opening) (s .book) (s .past) g m h t (account-learnt c);
       zero-sum = λ t c. all-shown (s .opening) (s .book) (s .past) g t (λ m h. account-learnt (c m h));
       look = λ m h t c. look-shows (s .opening) (s .book) (s .past) g m h t (look-learnt c);
+      again = λ ws us t c. again-shows (s .book) (s .past) (known-recalls s k) ws us t (again-learnt c);
       months = k .months;
       buy-ins = known-bought s k;
       cap-prices = known-capped s k;
@@ -83,6 +88,8 @@ calls b v (Call.offer n supplier q price) =
 calls b v (Call.close price rate lines) =
     Called.closed ([], tt) price rate (lent lines) _ (b, (price, (rate, (lent (rules.Close.closeWords b price rate lines), tt))))
     (refl, (refl, laws.Ended.close-valid b v price rate lines))
+calls b v (Call.again lines) =
+    Called.repeated ([], tt) (lent lines) _ (b, (lent (rules.Again.againWords b lines), tt)) (refl, (refl, laws.Ended.again-valid b v lines))
 calls b v (Call.month collected payouts) =
     Called.settled ([], ([], tt)) (lent collected) (lent payouts) _
     (b, (lent collected, (lent (rules.Month.monthWords b collected payouts), tt))) (refl, (refl, (laws.Paid.month-valid b v collected (length payouts), refl)))
@@ -106,6 +113,7 @@ demand-3 = record {
   deliver-code = record { met = code.deliver.Met.met; gives = λ w γ k same. code.deliver.Reads.known w γ k code.deliver.Symbol.routine same (code.deliver.Met.met (w .𝓤) (w .H) (w .𝓜) (w .𝓖) (w .𝓡)) };
   offer-code = record { met = code.offer.Met.met; gives = λ w γ k same. code.offer.Reads.known w γ k code.offer.Symbol.routine same (code.offer.Met.met (w .𝓤) (w .H) (w .𝓜) (w .𝓖) (w .𝓡)) };
   close-code = record { met = code.close.Met.met; gives = λ w γ k same. code.close.Reads.known w γ k code.close.Symbol.routine same (code.close.Met.met (w .𝓤) (w .H) (w .𝓜) (w .𝓖) (w .𝓡)) };
+  again-code = record { met = code.again.Met.met; gives = λ w γ k same. code.again.Reads.known w γ k code.again.Symbol.routine same (code.again.Met.met (w .𝓤) (w .H) (w .𝓜) (w .𝓖) (w .𝓡)) };
   month-code = record { met = code.month.Met.met; gives = λ w γ k same. code.month.Reads.known w γ k code.month.Symbol.routine same (code.month.Met.met (w .𝓤) (w .H) (w .𝓜) (w .𝓖) (w .𝓡)) };
   status-code = record { met = code.status.Met.met; gives = λ w γ k same. code.status.Reads.known w γ k code.status.Symbol.routine same (code.status.Met.met (w .𝓤) (w .H) (w .𝓜) (w .𝓖) (w .𝓡)) };
   account-code = record { met = code.account.Met.met; gives = λ w γ k same. code.account.Reads.known w γ k code.account.Symbol.routine same (code.account.Met.met (w .𝓤) (w .H) (w .𝓜) (w .𝓖) (w .𝓡)) };

@@ -18,11 +18,12 @@ pub data Call : Type 0 where
   deliver : (obligation quantity : ℕ) → Call
   offer : (obligation supplier quantity price : ℕ) → Call
   close : (price rate : ℕ) (lines : List ℕ) → Call
+  again : (lines : List ℕ) → Call
   month : (collected payouts : List ℕ) → Call
 
 -- J3, Whole journals: a call and what came of it: the answer number, the results in the order of the rules, and the words
--- of its lent lists as the call ended: of the list that it fills (the lines of a Close, the payouts of a Month) and of the
--- list that it only reads (the collected amounts of a Month). There are no words for the other calls.
+-- of its lent lists as the call ended: of the list that it fills (the lines of a Close or an Again, the payouts of a Month)
+-- and of the list that it only reads (the collected amounts of a Month). There are no words for the other calls.
 pub record Event : Type 0 where
   pub call : Call
   pub answer : ℕ

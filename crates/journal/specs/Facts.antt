@@ -1,10 +1,10 @@
 -- What one event says: its facts. Every sum and every history of a journal takes its own from them.
-use Prim.Native.Nat.{ℕ, zero, suc, _+_}
+use Prim.Native.Nat.{ℕ, _+_}
 use mathlib.Core.Bool.{Bool, true, false, _&&_}
 use mathlib.Core.List.{List, [], _∷_}
 use mathlib.Core.Option.{Option, none, some}
 use lib.Dec.{eqb}
-use lib.ListN.{getD, drop}
+use lib.ListN.{getD}
 use Rattle.basics.specs.Choice.{pick}
 use Rattle.basics.specs.Lists.{total}
 use Rattle.calendar.specs.declared.Day.{Day}
@@ -14,7 +14,7 @@ use Rattle.ledger.specs.declared.Part.the-variants.{Delivered, BoughtIn, Compen
 use Rattle.ledger.specs.Parts.{samePart}
 use Rattle.instructions.specs.declared.Leg.{Leg}
 use Rattle.closing.specs.declared.Line.{Line}
-use Rattle.closing.specs.Lines.{boughtKind, compensationKind}
+use Rattle.closing.specs.Lines.{boughtKind, compensationKind, linesRead}
 use Rattle.book.specs.Instructing.{newLeg}
 use Rattle.journal.specs.Calls.{Call, Event}
 
@@ -46,21 +46,6 @@ instructs n (withdraws leg) = none
 instructs n neither = none
 
 -- ---- Close
--- J5 and C11, Whole journals: the reported lines of a Close are read from its list as it ended. They are as many as the
--- Close returned, and each has six words.
-unfoldable pub linesRead : ℕ → List ℕ → List Line
-linesRead zero ws = []
-linesRead (suc k) ws =
-    record {
-      kind = getD ws 0 0;
-      obligation = getD ws 1 0;
-      quantity = getD ws 2 0;
-      cents = getD ws 3 0;
-      supplier = getD ws 4 0;
-      price = getD ws 5 0;
-    }
-    ∷ linesRead k (drop 6 ws)
-
 -- J7 and J8, Whole journals: a line of kind 3 says what was bought in, and a line of kind 4 says what was compensated
 abbrev pub partOfKind : ℕ → Option Part
 partOfKind kind = pick (eqb kind boughtKind) (some BoughtIn) (pick (eqb kind compensationKind) (some Compensated) none)
@@ -74,7 +59,8 @@ isPart k (some j) = samePart k j
 unfoldable pub quantityTo : Part → ℕ → Line → ℕ
 quantityTo k n l = pick (isPart k (partOfKind (l .kind)) && eqb (l .obligation) n) (l .quantity) 0
 
--- C1 and J5, Close: how an accepted Close ended the day: its price, and the lines that it reported
+-- C1 and J5, Close: how an accepted Close ended the day: its price, and the lines that it reported. They are read from its
+-- list as it ended, and they are as many as the Close returned.
 pub record Ended : Type 0 where
   pub price : ℕ
   pub lines : List Line
@@ -135,7 +121,8 @@ abbrev pub onlyCollects : List ℕ → Facts
 onlyCollects cs = record { legs = neither; moves = λ k n. 0; wishes = λ n m. false; offers = []; ends = none; collects = some cs }
 
 -- What an accepted call says, by its results and by its list as it ended. J6, Whole journals: a Deliver delivers its
--- quantity. J9: a Cancel cancels what it returned. J13: a Month collects the amounts that it was lent.
+-- quantity. J9: a Cancel cancels what it returned. N5, Again: an Again changes nothing, and its lines are not reported once
+-- more. J13: a Month collects the amounts that it was lent.
 abbrev pub factsOf : Call → List ℕ → List ℕ → Facts
 factsOf (Call.enter member other side q a j) rs ws = onlyLegs (enters (getD rs 0 0) (getD rs 1 0) (newLeg member other side q a j))
 factsOf (Call.withdraw leg member) rs ws = onlyLegs (withdraws leg)
@@ -143,6 +130,7 @@ factsOf (Call.cancel n member) rs ws = onlyMoves (movesOne Cancelled n (getD rs 
 factsOf (Call.deliver n q) rs ws = onlyMoves (movesOne Delivered n q) (λ k m. false)
 factsOf (Call.offer n supplier q price) rs ws = onlyOffers (record { obligation = n; supplier = supplier; quantity = q; price = price } ∷ [])
 factsOf (Call.close price rate lines) rs ws = onlyEnds (record { price = price; lines = linesRead (getD rs 0 0) ws })
+factsOf (Call.again lines) rs ws = noFacts
 factsOf (Call.month collected payouts) rs ws = onlyCollects collected
 
 -- J2, Whole journals: a call is accepted if its answer number is 0

@@ -17,8 +17,9 @@ use Rattle.instructions.specs.declared.Fit.{Fit}
 use Rattle.instructions.specs.declared.Fit.the-variants.{With, Nobody}
 use Rattle.instructions.specs.Legs.{noLeg, inState}
 use Rattle.instructions.specs.Match.{firstFit}
+use Rattle.closing.specs.declared.Line.{Line}
 use Rattle.journal.specs.Calls.{Opening, Event}
-use Rattle.journal.specs.Facts.{LegChange, enters, withdraws, neither, Instructed, isEnd, priceOf, facts}
+use Rattle.journal.specs.Facts.{LegChange, enters, withdraws, neither, Instructed, isEnd, reported, priceOf, facts}
 use Rattle.journal.specs.Sums.{closedIn, termsIn, todayIn, orElse, instructedIn, isMonth}
 
 -- ---- Close
@@ -26,6 +27,21 @@ use Rattle.journal.specs.Sums.{closedIn, termsIn, todayIn, orElse, instr
 unfoldable pub closeSinceIn : List Event → Bool
 closeSinceIn [] = false
 closeSinceIn (e ∷ es) = pick (isEnd (facts e .ends)) true (pick (isMonth (facts e .collects)) false (closeSinceIn es))
+
+-- N2, Again: the latest accepted Close, if there was one
+unfoldable pub latestClose : List Event → Option Event
+latestClose [] = none
+latestClose (e ∷ es) = pick (isEnd (facts e .ends)) (some e) (latestClose es)
+
+-- R22, Refusals: whether there was a Close
+abbrev pub wasClose : Option Event → Bool
+wasClose none = false
+wasClose (some e) = true
+
+-- N2 and N4, Again: the lines that the latest Close reported; there are none if there was no Close
+abbrev pub latestLines : Option Event → List Line
+latestLines none = []
+latestLines (some e) = reported (facts e .ends)
 
 -- B8, Buy-in: whether today is a day on which the age of what was instructed is grace
 abbrev pub isGraceDay : Opening → Day → Option Instructed → Bool

@@ -37,7 +37,7 @@ ofCancelled r = record { answer = r .answer; results = r .moved ∷ []; words = 
 abbrev pub ofDelivered : Delivered → Outcome
 ofDelivered r = record { answer = r .answer; results = r .cash ∷ []; words = []; kept = []; book = r .book }
 
--- C15, Close: the number of lines, and every word of its list
+-- C15, Close, and N2, Again: the number of lines, and every word of the list
 abbrev pub ofClosed : Closed → List ℕ → Outcome
 ofClosed r words = record { answer = r .answer; results = r .count ∷ []; words = words; kept = []; book = r .book }
 
@@ -54,6 +54,7 @@ outcome b (Call.deliver n q) = ofDelivered (rules.Instructing.deliver b n q)
 outcome b (Call.offer n supplier q price) = ofDone (rules.Buying.offer b n supplier q price)
 outcome b (Call.close price rate lines) =
     ofClosed (rules.Close.close b price rate (length lines)) (rules.Close.closeWords b price rate lines)
+outcome b (Call.again lines) = ofClosed (rules.Again.again b (length lines)) (rules.Again.againWords b lines)
 outcome b (Call.month collected payouts) =
     ofPaid (rules.Month.month b collected (length payouts)) (rules.Month.monthWords b collected payouts) collected
 

@@ -5,9 +5,9 @@ use mathlib.Core.Path.{_≡_}
 use mathlib.Core.Bool.{true, _&&_}
 use mathlib.Core.Logic.{_⊎_}
 use mathlib.Core.List.{List, [], _∷_, map}
-use mathlib.Core.Option.{some}
+use mathlib.Core.Option.{none, some}
 use lib.Dec.{eqb}
-use lib.ListN.{getD}
+use lib.ListN.{length, getD, take, drop}
 use Rattle.basics.specs.Choice.{pick}
 use Rattle.basics.specs.Lists.{sum, total}
 use Rattle.offers.specs.declared.Offer.{Offer}
@@ -19,13 +19,14 @@ use Rattle.ledger.specs.declared.Part.the-variants.{BoughtIn}
 use Rattle.ledger.specs.Parts.{partOf, everyPart}
 use Rattle.ledger.specs.Obligations.{inBuyIn}
 use Rattle.closing.specs.declared.Line.{Line}
+use Rattle.book.specs.declared.Closed.{Closed}
 use Rattle.book.specs.declared.Shown.{Shown}
 use Rattle.book.specs.declared.Balance.{Balance}
 use Rattle.book.specs.declared.Looked.{Looked}
 use Rattle.journal.specs.Calls.{Opening, Event}
 use Rattle.journal.specs.Facts.{Instructed, partOfKind, isPart, isEnd, reported, facts}
 use Rattle.journal.specs.Sums.{termsIn, todayIn, instructedIn, partIn, outstandingIn, ageIn, accountIn, claimsIn, lastClosedIn}
-use Rattle.journal.specs.History.{gracePriceIn, graceClosedIn, offersIn}
+use Rattle.journal.specs.History.{latestClose, gracePriceIn, graceClosedIn, offersIn}
 
 -- J10 and J15, Whole journals: what a Status after the list shows of an obligation of the list. It is accepted and shows
 -- the instructed quantity and the sum of each part. Together with what it shows as outstanding the sums are the quantity. Once a
@@ -58,6 +59,28 @@ pub data LateShown (o : Opening) (es : List Event) (m : ℕ) : ℕ → Type 0 wh
 pub record LookShows (o : Opening) (es : List Event) (m : ℕ) (t : Looked) : Type 0 where
   pub accepted : t .answer ≡ 0
   pub late : LateShown o es m (t .obligation)
+
+-- A5, Refusals: an Again after the list that is refused by n: it gives no lines, and every lent word stays as it was
+pub record AgainRefused (n : ℕ) (ws us : List ℕ) (t : Closed) : Type 0 where
+  pub number : t .answer ≡ n
+  pub count : t .count ≡ 0
+  pub words : us ≡ ws
+
+-- N2, Again: an Again after the list gives what this Close gave. It returns what the Close returned, the words of these
+-- lines are those of the Close's list as that Close ended, and each word behind them stays as it was.
+pub record AgainGives (e : Event) (ws us : List ℕ) (t : Closed) : Type 0 where
+  pub accepted : t .answer ≡ 0
+  pub count : t .count ≡ getD (e .results) 0 0
+  pub lines : take (6 * t .count) us ≡ take (6 * t .count) (e .words)
+  pub behind : drop (6 * t .count) us ≡ drop (6 * t .count) ws
+
+-- J16, Whole journals: what an Again after the list shows, if it is lent the words ws and they end as us. It is refused by 5
+-- if the list is too short. Else it is refused by 22 if no Close was accepted, and gives what the latest accepted Close
+-- gave if there was one.
+pub record AgainShows (es : List Event) (ws us : List ℕ) (t : Closed) : Type 0 where
+  pub short : length ws < 1152 → AgainRefused 5 ws us t
+  pub before : 1152 ≤ length ws → latestClose es ≡ none → AgainRefused 22 ws us t
+  pub after : 1152 ≤ length ws → (e : Event) → latestClose es ≡ some e → AgainGives e ws us t
 
 -- J14, Whole journals: what a creditor with claim g gets of c, where all claims add up to whole: c × g / whole, rounded
 -- down, or one cent more, and no more than g

@@ -12,7 +12,7 @@ ghost use Rattle.ledger.specs.Parts.{moved, allParts};
 ghost use Rattle.ledger.specs.Obligations.{newObligation, settled, cashOf, moving, Sound, Takes};
 ghost use Rattle.ledger.specs.Obligations.{inBuyIn, isDue, withGracePrice};
 ghost use Rattle.ledger.specs.Obligations.{isParty, hasWished, withWish, bothWish, wishing, movedByWish};
-ghost use Rattle.ledger.specs.Ledger.{mostObligations, newLedger, fetched, refusedChange, changed, withNew, clearedLedger};
+ghost use Rattle.ledger.specs.Ledger.{mostObligations, newLedger, fetched, refusedChange, changed, clearedLedger};
 
 // The most obligations of a book; `mostObligations` in specs/.
 pub const MOST_OBLIGATIONS: usize = 64;
@@ -348,19 +348,6 @@ impl Ledger {
             rows[i] = next;
         }
         self.obligations = rows;
-        self
-    }
-
-    // Adds an obligation, which gets the next number.
-    pub fn add(mut self, next: Obligation) -> Ledger
-        requires { ⌜ self .count < mostObligations ⌝ }
-        ensures { λ r. ⌜ r ≡ withNew next self ⌝ }
-    {
-        let i = self.count;
-        let mut rows = self.obligations;
-        rows[i] = next;
-        self.obligations = rows;
-        self.count = i + 1;
         self
     }
 

@@ -1,10 +1,10 @@
--- The refusals of Close.
+-- The refusals of Close and of Again.
 use Prim.Native.Nat.{ℕ, _≤_, _<_}
-use mathlib.Core.Path.{_≡_, refl, sym, _∙_}
-use mathlib.Core.Bool.{false≢true}
+use mathlib.Core.Path.{_≡_, refl, sym, ap, _∙_}
+use mathlib.Core.Bool.{Bool, true, false, not, false≢true}
 use mathlib.Core.List.{[]}
 use lib.Dec.{ltb}
-use borrow.Author.Tests.{ltb-false}
+use borrow.Author.Tests.{ltb-false, lt-ltb, le-ltb, not-false}
 use Rattle.basics.specs.Lists.{Every}
 use Rattle.basics.proofs.Cases.{or-false}
 use Rattle.calendar.specs.declared.Day.{Day}
@@ -12,7 +12,7 @@ use Rattle.calendar.specs.declared.NextDay.{NextDay}
 use Rattle.calendar.specs.declared.NextDay.the-variants.{At, Never}
 use Rattle.amounts.specs.Amounts.{mostClosePrice, mostRate}
 use Rattle.refusals.specs.Refusals.{answer, outside}
-use Rattle.refusals.specs.Calls.{fewestWords, badRates, closeRefusalsIn, closeRefusals}
+use Rattle.refusals.specs.Calls.{fewestWords, badRates, closeRefusalsIn, closeRefusals, againRefusals}
 use Rattle.refusals.proofs.Refusals.{pass, stop, passed, all-passed, refused-ahead, passed-ahead, ahead-passed, is-printed}
 
 module _ (price rate words : ℕ) where
@@ -63,3 +63,27 @@ module _ (price rate words : ℕ) where
   pub never-refused : answer (closeRefusals price rate words Never) ≡ 0 → ⊥
   unfolding closeRefusals
   never-refused e = false≢true (sym (passed _ _ _ (ahead-passed (closeRefusalsIn price rate words) _ close-some e .1) refl .0))
+
+-- ---- Again
+module _ (closed : Bool) (words : ℕ) where
+  -- an Again that is done is lent a list that is long enough, after a Close
+  pub again-given : answer (againRefusals closed words) ≡ 0 → (fewestWords ≤ words) × (closed ≡ true)
+  unfolding againRefusals
+  again-given e =
+      let p5 = passed 5 (ltb words fewestWords) _ e refl in
+      let p22 = passed 22 (not closed) [] (p5 .1) refl in
+      (ltb-false words fewestWords (p5 .0), not-false closed (p22 .0))
+
+  -- a short list is refused by 5, whether there was a Close or not
+  pub again-short : words < fewestWords → answer (againRefusals closed words) ≡ 5
+  unfolding againRefusals
+  again-short h = stop 5 _ (lt-ltb words fewestWords h)
+
+  -- with a list that is long enough, an Again is refused by 22 before the first Close, and done after it
+  pub again-before : fewestWords ≤ words → closed ≡ false → answer (againRefusals closed words) ≡ 22
+  unfolding againRefusals
+  again-before h e = pass 5 _ (le-ltb words fewestWords h) ∙ stop 22 [] (ap not e)
+
+  pub again-after : fewestWords ≤ words → closed ≡ true → answer (againRefusals closed words) ≡ 0
+  unfolding againRefusals
+  again-after h e = pass 5 _ (le-ltb words fewestWords h) ∙ pass 22 [] (ap not e) ∙ all-passed

@@ -101,7 +101,7 @@ offerRefusalsOf terms today age offers o price =
     ∷ []
 
 -- ---- Close
--- C1, Close: the fewest words of its list
+-- C1, Close, and N1, Again: the fewest words of the list
 abbrev pub fewestWords : ℕ
 fewestWords = 1152
 
@@ -109,11 +109,20 @@ fewestWords = 1152
 abbrev pub badRates : ℕ → ℕ → Bool
 badRates price rate = outside 1 mostClosePrice price || ltb mostRate rate
 
+-- R5, Refusals, of Close and of Again: the list has fewer than 1,152 words
+abbrev pub isShort : ℕ → Bool
+isShort words = ltb words fewestWords
+
 -- A12, R3 and R5, Refusals, of Close from its input, with this many words lent
 unfoldable pub closeRefusalsIn : ℕ → ℕ → ℕ → List Refusal
-closeRefusalsIn price rate words = refuse 3 (badRates price rate) ∷ refuse 5 (ltb words fewestWords) ∷ []
+closeRefusalsIn price rate words = refuse 3 (badRates price rate) ∷ refuse 5 (isShort words) ∷ []
 
 -- A12 and R20, Refusals, of Close: by the next clearing day after today. If there is none, 20 holds.
 unfoldable pub closeRefusals : ℕ → ℕ → ℕ → NextDay → List Refusal
 closeRefusals price rate words Never = closeRefusalsIn price rate words ++ refuse 20 true ∷ []
 closeRefusals price rate words (At next) = closeRefusalsIn price rate words ++ refuse 20 false ∷ []
+
+-- ---- Again
+-- A17, R5 and R22, Refusals, of Again: by whether a Close was accepted since Open, with this many words lent
+unfoldable pub againRefusals : Bool → ℕ → List Refusal
+againRefusals closed words = refuse 5 (isShort words) ∷ refuse 22 (not closed) ∷ []

@@ -23,12 +23,12 @@ ghost use Rattle.amounts.specs.Amounts.{mostOfferPrice, mostClosePrice};
 ghost use Rattle.instructions.specs.Legs.{legOf};
 ghost use Rattle.refusals.specs.Refusals.{outside, answer};
 ghost use Rattle.refusals.specs.Calls.{badFirst, badParties, badDay, enterRefusals, cancelRefusalsOf};
-ghost use Rattle.refusals.specs.Calls.{deliverRefusalsOf, offerRefusalsIn, offerRefusalsOf, badRates, closeRefusalsIn};
+ghost use Rattle.refusals.specs.Calls.{deliverRefusalsOf, offerRefusalsIn, offerRefusalsOf, badRates, isShort, closeRefusalsIn, againRefusals};
 
 // The highest number of a member; `lastMember` in specs/.
 pub const LAST_MEMBER: u64 = MEMBER_COUNT as u64 - 1;
 
-// The fewest words of the list of a Close; `fewestWords` in specs/.
+// The fewest words of the list of a Close or an Again; `fewestWords` in specs/.
 const FEWEST_WORDS: usize = 1_152;
 
 // Whether a number is below `low` or above `high`.
@@ -157,6 +157,13 @@ fn are_bad_rates(price: u64, rate: u64) -> bool
     is_outside(1, MOST_CLOSE_PRICE, price) || MOST_RATE < rate
 }
 
+// Whether a list is too short for the lines of a Close.
+fn is_short(words: usize) -> bool
+    ensures { λ r. ⌜ r ≡ isShort words ⌝ }
+{
+    words < FEWEST_WORDS
+}
+
 // The answer number of a Close by its own numbers, with this many words lent.
 pub fn close_answer(price: u64, rate: u64, words: usize) -> u64
     ensures { λ r. ⌜ r ≡ answer (closeRefusalsIn price rate words) ⌝ }
@@ -164,8 +171,21 @@ pub fn close_answer(price: u64, rate: u64, words: usize) -> u64
     if are_bad_rates(price, rate) {
         return 3;
     }
-    if words < FEWEST_WORDS {
+    if is_short(words) {
         return 5;
+    }
+    0
+}
+
+// The answer number of an Again, with this many words lent. `closed` says whether a Close was accepted since Open.
+pub fn again_answer(closed: bool, words: usize) -> u64
+    ensures { λ r. ⌜ r ≡ answer (againRefusals closed words) ⌝ }
+{
+    if is_short(words) {
+        return 5;
+    }
+    if !closed {
+        return 22;
     }
     0
 }

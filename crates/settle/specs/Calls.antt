@@ -62,6 +62,10 @@ plain c = some (record { call = c; manner = by-numbers })
 abbrev pub closeAsked : Asked → Asking
 closeAsked a = record { call = Call.close (a .first) (a .second) (lentTo a); manner = by-lines }
 
+-- an again, which is lent words for the lines as a close is
+abbrev pub againAsked : Asked → Asking
+againAsked a = record { call = Call.again (lentTo a); manner = by-lines }
+
 -- a month, which is lent words for its payouts
 abbrev pub monthAsked : Asked → List ℕ → Asking
 monthAsked a ns = record { call = Call.month (listIn a ns) (lentTo a); manner = by-payouts }
@@ -75,6 +79,7 @@ askingOf Name.Cancel a ns = plain (Call.cancel (a .first) (a .second))
 askingOf Name.Deliver a ns = plain (Call.deliver (a .first) (a .second))
 askingOf Name.Offer a ns = plain (Call.offer (a .first) (a .second) (a .third) (a .fourth))
 askingOf Name.Close a ns = some (closeAsked a)
+askingOf Name.Again a ns = some (againAsked a)
 askingOf Name.Month a ns = some (monthAsked a ns)
 askingOf Name.Status a ns = none
 askingOf Name.Account a ns = none
@@ -161,7 +166,7 @@ pub record LooksAs (b : Book) (a : Asked) (answer : Answer) : Type 0 where
 
 -- the edition of the rules: the number of the latest change in docs/RULES.md
 abbrev pub edition : ℕ
-edition = 0
+edition = 1
 
 -- the answer to rules: 0 and the edition
 abbrev pub editionTold : Answer

@@ -21,11 +21,11 @@ ghost use Rattle.book.specs.Book.{Valid};
 ghost use Rattle.reading.specs.Calls.{mostNumbers, shapeRight};
 ghost use Rattle.settle.specs.Asked.{nothingAsked, askedWith, askedLent, askedCall, asks, noted, Listed};
 ghost use Rattle.settle.specs.Calls.{atFirst, opens, enters, afterDone, afterCancel, afterDeliver, afterCall, wordsAfter};
-ghost use Rattle.settle.specs.Calls.{closeAsked, monthAsked, shownAs, balanceAs, lookedAs, editionTold};
+ghost use Rattle.settle.specs.Calls.{closeAsked, againAsked, monthAsked, shownAs, balanceAs, lookedAs, editionTold};
 
 // What a line asks. The first six numbers of the buffer are copied for every call; a call with fewer arguments does not
 // use the rest, which may be left from earlier lines. `from` and `to` are the places of the list of an open or a month.
-// `lent` says how many words a close or a month is lent, and `fill` with what value they are filled.
+// `lent` says how many words a close, an again or a month is lent, and `fill` with what value they are filled.
 pub struct Asked {
     pub line: Line,
     pub first: u64,
@@ -221,6 +221,22 @@ pub fn close(book: Book, a: Asked, words: &mut [u64]) -> Played
     }
 }
 
+pub fn again(book: Book, a: Asked, words: &mut [u64]) -> Played
+    requires { ⌜ (Valid book) × (a .lent ≤ length (now words)) ⌝ }
+    ensures { λ r. ⌜ r ≡ afterCall book a (againAsked a) ⌝ }
+    ensures { λ r. ⌜ now (words .exit) ≡ wordsAfter book a (againAsked a) (now (words .entry)) ⌝ }
+    ensures { λ r. ⌜ Valid (r .book) ⌝ }
+{
+    let lent = a.lent;
+    fill(words, lent, a.fill);
+    let shown = book.again(&mut words[..lent]);
+    let after = shown.book;
+    Played {
+        book: after,
+        answer: Answer::closed(shown.answer, shown.count, lent, a.fill),
+    }
+}
+
 pub fn month(book: Book, a: Asked, n: &[u64], words: &mut [u64]) -> Played
     requires { ⌜ (Valid book) × (Listed a (now n)) × (a .lent ≤ length (now words)) ⌝ }
     ensures { λ r. ⌜ r ≡ afterCall book a (monthAsked a (now (n .entry))) ⌝ }
@@ -272,7 +288,7 @@ pub fn looked(looked: Looked) -> Answer
 }
 
 // The edition of the rules that the book follows: the number of the latest change in docs/RULES.md.
-pub const EDITION: u64 = 0;
+pub const EDITION: u64 = 1;
 
 pub fn rules() -> Answer
     ensures { λ r. ⌜ r ≡ editionTold ⌝ }

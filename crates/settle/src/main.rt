@@ -63,6 +63,7 @@ fn settle_all(
                     played = calls::done(played.book.offer(a.first, a.second, a.third, a.fourth))
                 }
                 Name::Close => played = calls::close(played.book, a, words),
+                Name::Again => played = calls::again(played.book, a, words),
                 Name::Month => played = calls::month(played.book, a, numbers, words),
                 Name::Status => played.answer = calls::shown(played.book.status(a.first)),
                 Name::Account => played.answer = calls::balance(played.book.account(a.first)),
@@ -98,7 +99,7 @@ fn number_places() -> [u64; NUMBER_PLACES]
     [0; NUMBER_PLACES]
 }
 
-// Places for the words that a Close is lent, and for the payouts of a Month.
+// Places for the words that a Close or an Again is lent, and for the payouts of a Month.
 const WORD_PLACES: usize = 4_096;
 
 fn word_places() -> [u64; WORD_PLACES]

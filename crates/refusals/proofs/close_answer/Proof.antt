@@ -1,6 +1,5 @@
 -- `close_answer` meets its contract.
 use mathlib.Core.Path.{sym, _∙_}
-use borrow.Author.Tests.{lt-ltb, le-ltb}
 use borrow.Author.Needs.{needs}
 use Rattle.refusals.proofs.Refusals.{pass, stop, all-passed}
 use Rattle.refusals.specs.Calls.{closeRefusalsIn}
@@ -10,17 +9,20 @@ use Rattle.refusals.proofs.close_answer.Tie as tie
 are-bad-rates-requires : tie.Need-are-bad-rates-requires
 are-bad-rates-requires c κs = search needs
 
+is-short-requires : tie.Need-is-short-requires
+is-short-requires c κs = search needs
+
 returns : tie.Need-returns
 unfolding closeRefusalsIn
 returns c = sym (stop 3 _ (sym (c .before .are-bad-rates .ensures) ∙ c .if1 .taken))
 
 returns-2 : tie.Need-returns-2
 unfolding closeRefusalsIn
-returns-2 c = sym (pass 3 _ (sym (c .before .before .are-bad-rates .ensures) ∙ c .before .if1 .left) ∙ stop 5 _ (lt-ltb _ _ (c .if2 .taken)))
+returns-2 c = sym (pass 3 _ (sym (c .before .before .before .are-bad-rates .ensures) ∙ c .before .before .if1 .left) ∙ stop 5 _ (sym (c .before .is-short .ensures) ∙ c .if2 .taken))
 
 returns-3 : tie.Need-returns-3
 unfolding closeRefusalsIn
-returns-3 c = sym (pass 3 _ (sym (c .before .before .are-bad-rates .ensures) ∙ c .before .if1 .left) ∙ pass 5 _ (le-ltb _ _ (c .if2 .left)) ∙ all-passed)
+returns-3 c = sym (pass 3 _ (sym (c .before .before .before .are-bad-rates .ensures) ∙ c .before .before .if1 .left) ∙ pass 5 _ (sym (c .before .is-short .ensures) ∙ c .if2 .left) ∙ all-passed)
 
 pub close-answer-spec : {M : Type 1} → statement M
-close-answer-spec = tie.close (tie.spec are-bad-rates-requires returns returns-2 returns-3)
+close-answer-spec = tie.close (tie.spec are-bad-rates-requires returns is-short-requires returns-2 returns-3)

@@ -1,6 +1,6 @@
 -- `settle_all` meets its contract. The loop's invariant: `Stands` holds, and the buffers keep their lengths. The
 -- measure is how many turns are left.
-use Prim.Native.Nat.{ℕ}
+use Prim.Native.Nat.{ℕ, _*_, _≤_}
 use native.Mathlib.Omega.{arith}
 use mathlib.Core.Path.{_≡_, refl, ap, _∙_}
 use mathlib.Core.List.{List}
@@ -9,12 +9,13 @@ use lib.ListN.{length, length-replicate}
 use borrow.Author.Needs.{needs}
 use Rattle.book.specs.declared.Book.{Book}
 use Rattle.book.specs.Book.{Valid}
-use Rattle.book.proofs.Ended.{close-fits}
+use Rattle.book.proofs.Ended.{close-fits, again-fits}
 use Rattle.answers.specs.Text.{Tellable}
+use Rattle.answers.specs.Told.{closedTold}
 use Rattle.answers.proofs.Tells.{nothing-tells, no-call-tells, numbers-tells, balance-tells, closed-tells, paid-tells}
 use Rattle.settle.specs.declared.flow.Flow.{Flow}
 use Rattle.settle.specs.declared.calls.Played.{Played}
-use Rattle.settle.specs.Calls.{played, lentTo, afterDone, afterCancel, afterDeliver, afterCall, closeAsked, monthAsked, shownAs, balanceAs, answerBy}
+use Rattle.settle.specs.Calls.{played, lentTo, afterDone, afterCancel, afterDeliver, afterCall, closeAsked, againAsked, monthAsked, shownAs, balanceAs, answerBy}
 use Rattle.settle.specs.Turns.{Held, begins}
 use Rattle.settle.specs.Turns.Gives.{opening, calling, showing, balancing, looking, ruling, passing, objecting}
 use Rattle.settle.proofs.Turning.{Stands, standing, stopped, Given, given-by, call-line, numbers-given, shown-given, turned, fewer, took-within}
@@ -67,15 +68,25 @@ kept s = fed-kept (fed s .feed-on .ensures) (turn s .loop .inv .0 .read)
 ready : (s : tie.After-slice-known8 Inv-loop μ-loop) → Ready (length (turn s .loop .out)) (fed s .feed-on .result)
 ready s = let i = turn s .loop .inv .0 in fed-ready (fed s .feed-on .ensures) (i .room .writable) (i .ordered)
 
--- a close's answer can be written, because its lines stand within the words that it was lent
-close-tells : (s : tie.After-slice-known8 Inv-loop μ-loop) {after : List ℕ} → length after ≡ length (turn s .loop .words)
-    → Tellable (afterCall (book s) (asked s .ask .result) (closeAsked (asked s .ask .result)) .answer) after
-unfolding answerBy
-close-tells s same =
+-- The answer to a call that is lent words for lines can be written, if its lines stand within these words. So can that to a
+-- close, and that to an again.
+lines-tell : (s : tie.After-slice-known8 Inv-loop μ-loop) {after : List ℕ} (n count : ℕ) → 6 * count ≤ length (lentTo (asked s .ask .result)) → length after ≡ length (turn s .loop .words)
+    → Tellable (closedTold n count (asked s .ask .result .lent) (asked s .ask .result .fill)) after
+lines-tell s n count fits same =
     let a = asked s .ask .result in
     let lends = asked s .ask .ensures .1 .1 .lends in
     closed-tells _ _ _ _ _ lends (omega (arith, lends, same, turn s .loop .inv .0 .room .lendable))
-    (omega (arith, close-fits (book s) (a .first) (a .second) (lentTo a) (valid s), length-replicate (a .lent) (a .fill)))
+    (omega (arith, fits, length-replicate (a .lent) (a .fill)))
+
+close-tells : (s : tie.After-slice-known8 Inv-loop μ-loop) {after : List ℕ} → length after ≡ length (turn s .loop .words)
+    → Tellable (afterCall (book s) (asked s .ask .result) (closeAsked (asked s .ask .result)) .answer) after
+unfolding answerBy
+close-tells s same = let a = asked s .ask .result in lines-tell s _ _ (close-fits (book s) (a .first) (a .second) (lentTo a) (valid s)) same
+
+again-tells : (s : tie.After-slice-known8 Inv-loop μ-loop) {after : List ℕ} → length after ≡ length (turn s .loop .words)
+    → Tellable (afterCall (book s) (asked s .ask .result) (againAsked (asked s .ask .result)) .answer) after
+unfolding answerBy
+again-tells s same = lines-tell s _ _ (again-fits (book s) (lentTo (asked s .ask .result)) (valid s)) same
 
 month-tells : (s : tie.After-slice-known8 Inv-loop μ-loop) {after : List ℕ} → length after ≡ length (turn s .loop .words)
     → Tellable (afterCall (book s) (asked s .ask .result) (monthAsked (asked s .ask .result) (asked s .ask .last .1 .1 .0)) .answer) after
@@ -103,13 +114,14 @@ given c =
     (λ y. cases y (λ x. numbers-given afterDeliver (x .1 .given .1) (x .4 .given .1) refl (x .8 ∙ x .6 .ensures) (x .5 .ensures .0) (x .5 .ensures .1) refl refl (x .7))
     (λ y. cases y (λ x. numbers-given afterDone (x .1 .given .1) (x .4 .given .1) refl (x .8 ∙ x .6 .ensures) (x .5 .ensures .0) (x .5 .ensures .1) refl refl (x .7))
     (λ y. cases y (λ x. given-by _ _ _ (call-line (x .1 .given .1) (x .4 .given .1)) (x .10 ∙ x .6 .ensures .0) (x .9 ∙ x .6 .ensures .1 .0) (calling _ _ _ _ refl) (rw (x .6 .ensures .0) at (x .6 .ensures .1 .1)) (close-tells s (ap length (x .9) ∙ x .6 .kept .1 .1 .0)) (ap length (x .9) ∙ x .6 .kept .1 .1 .0))
+    (λ y. cases y (λ x. given-by _ _ _ (call-line (x .1 .given .1) (x .4 .given .1)) (x .10 ∙ x .6 .ensures .0) (x .9 ∙ x .6 .ensures .1 .0) (calling _ _ _ _ refl) (rw (x .6 .ensures .0) at (x .6 .ensures .1 .1)) (again-tells s (ap length (x .9) ∙ x .6 .kept .1 .1 .0)) (ap length (x .9) ∙ x .6 .kept .1 .1 .0))
     (λ y. cases y (λ x. given-by _ _ _ (call-line (x .1 .given .1) (x .4 .given .1)) (x .11 ∙ x .7 .ensures .0) (x .10 ∙ x .7 .ensures .1 .0) (calling _ _ _ _ refl) (rw (x .7 .ensures .0) at (x .7 .ensures .1 .1)) (month-tells s (ap length (x .10) ∙ x .7 .kept .1 .1 .1 .0)) (ap length (x .10) ∙ x .7 .kept .1 .1 .1 .0))
     (λ y. cases y (λ x. shown-given (call-line (x .1 .given .1) (x .4 .given .1)) (showing _ _) (x .8 ∙ ap (played (book s)) (x .6 .ensures ∙ ap shownAs (x .5 .ensures .0))) (x .7) (valid s) (numbers-tells _ _ (omega arith)))
     (λ y. cases y (λ x. shown-given (call-line (x .1 .given .1) (x .4 .given .1)) (balancing _ _) (x .8 ∙ ap (played (book s)) (x .6 .ensures ∙ ap balanceAs (x .5 .ensures .0))) (x .7) (valid s) (balance-tells _ _ _))
     (λ y. cases y (λ x. shown-given (call-line (x .1 .given .1) (x .4 .given .1)) (looking _ _ _ (record { looked = x .5 .result; allowed = x .5 .ensures .0; told = refl })) (x .8 ∙ ap (played (book s)) (x .6 .ensures)) (x .7) (valid s) (numbers-tells _ _ (omega arith)))
     (λ y. cases y (λ x. shown-given (call-line (x .1 .given .1) (x .4 .given .1)) (ruling _ _) (x .7 ∙ ap (played (book s)) (x .5 .ensures)) (x .6) (valid s) (numbers-tells _ _ (omega arith)))
     (λ y. cases y (λ x. shown-given (x .1 .given .1) passing (x .4 ∙ ap (played (book s)) (x .2 .ensures)) (x .3) (valid s) (nothing-tells _))
-    (λ x. shown-given (x .1 .given .1) objecting (x .4 ∙ ap (played (book s)) (x .2 .ensures)) (x .3) (valid s) (no-call-tells _))))))))))))))
+    (λ x. shown-given (x .1 .given .1) objecting (x .4 ∙ ap (played (book s)) (x .2 .ensures)) (x .3) (valid s) (no-call-tells _)))))))))))))))
 
 loop-holds : tie.Need-loop-holds Inv-loop μ-loop
 loop-holds c =
@@ -139,10 +151,15 @@ ask-requires c κs =
 open-requires : tie.Need-open-requires Inv-loop μ-loop
 open-requires c κs = asked (c .before .before .before .before .before .before) .ask .ensures .1 .1
 
+-- the words for lines are there
+lends-lines : (s : tie.After-slice-known8 Inv-loop μ-loop) → (Valid (book s)) × (asked s .ask .result .lent ≤ length (turn s .loop .words))
+lends-lines s = (valid s, omega (arith, asked s .ask .ensures .1 .1 .lends, turn s .loop .inv .0 .room .lendable))
+
 close-requires : tie.Need-close-requires Inv-loop μ-loop
-close-requires c κs =
-    let s = c .before .before .before .before .before .before in
-    (valid s, omega (arith, asked s .ask .ensures .1 .1 .lends, turn s .loop .inv .0 .room .lendable))
+close-requires c κs = lends-lines (c .before .before .before .before .before .before)
+
+again-requires : tie.Need-again-requires Inv-loop μ-loop
+again-requires c κs = lends-lines (c .before .before .before .before .before .before)
 
 month-requires : tie.Need-month-requires Inv-loop μ-loop
 month-requires c κs =
@@ -184,7 +201,7 @@ tell-last-requires : tie.Need-tell-last-requires Inv-loop μ-loop
 tell-last-requires c κs = let s = c .before .before .before .loop .inv .0 in (s .held, s .within, s .room .writable)
 
 -- the place where the loop ended
-abbrev last : tie.After-slice-known12 Inv-loop μ-loop → tie.After-loop Inv-loop μ-loop
+abbrev last : tie.After-slice-known13 Inv-loop μ-loop → tie.After-loop Inv-loop μ-loop
 last c = c .before .before .before .before .before
 
 returns : tie.Need-returns Inv-loop μ-loop
@@ -221,6 +238,7 @@ settle-all-spec =
     (λ c. search needs) (λ c κs. valid (c .before .before .before .before .before)) (λ c κs. search needs)
     (λ c. search needs) (λ c κs. valid (c .before .before .before .before .before)) (λ c κs. search needs)
     (λ c. search needs) close-requires
+    (λ c. search needs) again-requires
     (λ c. search needs) month-requires
     (λ c. search needs) (λ c κs. valid (c .before .before .before .before .before)) (λ c κs. search needs)
     (λ c. search needs) (λ c κs. valid (c .before .before .before .before .before)) (λ c κs. search needs)

@@ -1,8 +1,13 @@
 -- `close` meets its contract.
 use native.Mathlib.Omega.{arith}
-use mathlib.Core.Path.{sym, _∙_}
+use mathlib.Core.Path.{_≡_, sym, _∙_}
+use lib.ListN.{length}
 use borrow.Author.Needs.{needs}
-use Rattle.book.proofs.Ended.{refused-end, done-closable, done-end}
+use Rattle.calendar.specs.declared.NextDay.the-variants.{At}
+use Rattle.refusals.specs.Refusals.{answer}
+use Rattle.refusals.specs.Calls.{closeRefusalsIn}
+use Rattle.book.specs.Close.{nextDay}
+use Rattle.book.proofs.Ended.{refused-end, done-closable, done-keepable, done-end}
 use Rattle.refusals.proofs.Ending.{close-refused, close-never}
 use Rattle.book.proofs.Book.close.Statement.{statement}
 use Rattle.book.proofs.Book.close.Tie as tie
@@ -33,12 +38,26 @@ close-requires : tie.Need-close-requires
 close-requires c κs = let a = c .before .before .before .before .before .before .before .before .before .before .before .args in
     done-closable (a .self) (c .before .before .before .before .before .before .before .before .before .before .before .pre) (a .price) (a .rate) (a .lines .now) (sym (c .before .before .before .before .before .before .before .before .before .close-answer .ensures) ∙ c .before .before .before .before .before .before .before .before .if1 .left) _ (sym (c .before .before .before .before .next-after .ensures) ∙ c .before .before .next .given .1)
 
+-- after the Close of the ledger: where the call began, that no refusal from the input holds, and the next clearing day
+abbrev start : tie.After-close → tie.Start
+start c = c .before .before .before .before .before .before .before .before .before .before .before .before
+
+passes : (c : tie.After-close) → let a = start c .args in answer (closeRefusalsIn (a .price) (a .rate) (length (a .lines .now))) ≡ 0
+passes c = sym (c .before .before .before .before .before .before .before .before .before .before .close-answer .ensures) ∙ c .before .before .before .before .before .before .before .before .before .if1 .left
+
+next-day : (c : tie.After-close) → nextDay (start c .args .self) ≡ At (c .before .before .before .next .given .0 .0)
+next-day c = sym (c .before .before .before .before .before .next-after .ensures) ∙ c .before .before .before .next .given .1
+
+of-requires : tie.Need-of-requires
+of-requires c κs = let done = c .before .before .before in
+    done-keepable _ (start done .pre) _ _ _ (passes done) _ (next-day done) _ _ _ (done .close .ensures)
+
 same-length : tie.Need-same-length
 same-length c = search needs
 
 returns-3 : tie.Need-returns-3
-returns-3 c = let a = c .before .before .before .before .before .before .before .before .before .before .before .before .before .before .before .args in
-    done-end (a .self) (c .before .before .before .before .before .before .before .before .before .before .before .before .before .before .before .pre) (a .price) (a .rate) (a .lines .now) (sym (c .before .before .before .before .before .before .before .before .before .before .before .before .before .close-answer .ensures) ∙ c .before .before .before .before .before .before .before .before .before .before .before .before .if1 .left) _ (sym (c .before .before .before .before .before .before .before .before .next-after .ensures) ∙ c .before .before .before .before .before .before .next .given .1) _ _ _ (c .before .before .before .close .ensures)
+returns-3 c = let done = c .before .before .before .before .before in
+    done-end _ (start done .pre) _ _ _ (passes done) _ (next-day done) _ _ _ (done .close .ensures) _ (c .before .of .ensures .0)
 
 pub close-spec : {M : Type 1} → statement M
 close-spec =
@@ -51,5 +70,6 @@ close-spec =
     enum-told
     returns-2
     close-requires
+    of-requires
     same-length
     returns-3)

@@ -1,121 +1,97 @@
 -- `enter` meets its contract.
+use Prim.Native.Nat.{ℕ}
 use native.Mathlib.Omega.{arith}
-use mathlib.Core.Path.{_≡_, sym, ap, _∙_}
+use mathlib.Core.Path.{_≡_, sym, ap, subst⁻¹, _∙_}
 use borrow.Author.Needs.{needs}
-use Rattle.instructions.specs.declared.Leg.{Leg}
-use Rattle.instructions.specs.Legs.{withLeg}
+use Rattle.instructions.specs.declared.Instruction.{Instruction}
+use Rattle.instructions.specs.declared.Entry.{Entry}
+use Rattle.instructions.specs.Legs.{legOf}
 use Rattle.instructions.specs.Match.{lowestFit}
-use Rattle.refusals.proofs.Refusals.{refused-with, done-by}
+use Rattle.instructions.specs.Entry.{Enterable}
+use Rattle.refusals.specs.Refusals.{outcome}
 use Rattle.book.specs.declared.Entered.{Entered}
-use Rattle.book.specs.Book.{withLegs}
-use Rattle.book.specs.Instructing.{newLeg, enteredAlone, enteredWith, enteredBy, enterRefused, enter}
+use Rattle.book.specs.Book.{withLegs, withLedger}
+use Rattle.book.specs.Instructing.{Matchable, enterReturns, enteredBy, enterRefused, enter}
 use Rattle.book.proofs.Answers.{answered}
-use Rattle.book.proofs.Kept.{Good, good, matched-room, enter-valid}
+use Rattle.book.proofs.Kept.{Good, good, enter-valid}
+use Rattle.book.proofs.Entering.{entry-enterable, entry-matchable, entered-outcome}
 use Rattle.book.proofs.Book.enter.Statement.{statement}
 use Rattle.book.proofs.Book.enter.Tie as tie
 
--- where the call begins, from the place where it is not refused
-abbrev start : tie.Else1 → tie.Start
+-- where the call begins
+abbrev start : tie.After-enter-answer → tie.Start
 start c = c .before .before .before .before
 
--- the leg of the instruction
-abbrev new : tie.Start → Leg
-new s = newLeg (s .args .member) (s .args .other) (s .args .side) (s .args .quantity) (s .args .amount) (s .args .day)
+-- the instruction
+abbrev asked : tie.Start → Instruction
+asked s = let a = s .args in
+    record { member = a .member; other = a .other; side = a .side; quantity = a .quantity; amount = a .amount; day = a .day }
 
-fine : (c : tie.Else1) → Good (start c .args .self) (start c .pre) (new (start c))
-fine c = good _ (start c .pre) _ (sym (c .before .enter-answer .ensures) ∙ c .if1 .left)
-
--- what was found to match it
-fits : (c : tie.After-lowest-fit) → let s = start (c .before .before) in lowestFit (s .args .self .legs) (new s) ≡ c .lowest-fit .result
-fits c =
-    let s = start (c .before .before) in
-    sym (c .lowest-fit .ensures ∙ ap (lowestFit (s .args .self .legs)) (c .before .leg .ensures))
-
--- what it returns if it is not refused, by what was found
-done : (c : tie.After-lowest-fit) →
-    let s = start (c .before .before) in
-    let a = s .args in
-    enteredBy (a .self) (new s) (c .lowest-fit .result) ≡ enter (a .self) (a .member) (a .other) (a .side) (a .quantity) (a .amount) (a .day)
-unfolding enter
-done c =
-    let asked = c .before .before in
-    let s = start asked in
-    ap (enteredBy (s .args .self) (new s)) (sym (fits c))
-    ∙ done-by _ _ (enterRefused _) (sym (asked .before .enter-answer .ensures) ∙ asked .if1 .left)
+-- an instruction that is not refused
+fine : (c : tie.After-enter-answer) → c .enter-answer .result ≡ 0 → Good (start c .args .self) (start c .pre) (legOf (asked (start c)))
+fine c z = good _ (start c .pre) _ (sym (c .enter-answer .ensures) ∙ z)
 
 enter-answer-requires : tie.Need-enter-answer-requires
 enter-answer-requires c κs = search needs
 
+entry-requires : tie.Need-entry-requires
+entry-requires c κs = (
+  start c .pre .legs .few,
+  λ z. let g = fine c z in record {
+    member-fits = omega (arith, g .member-below);
+    other-fits = omega (arith, g .other-below);
+    side-fits = omega (arith, g .side-most);
+    quantity-fits = g .quantity-within .1;
+  },
+)
+
+with-match-requires : tie.Need-with-match-requires
+with-match-requires c κs =
+    let s = c .before in
+    subst⁻¹ (λ (e : Entry). Matchable e (start s .args .self .ledger)) (c .entry .ensures) (entry-matchable _ (start s .pre) (asked (start s)) _ (fine s))
+
+enter-requires : tie.Need-enter-requires
+enter-requires c κs =
+    let s = c .before .before in (
+      subst⁻¹ (λ (e : Entry). Enterable e (start s .args .self .legs)) (c .before .entry .ensures) (entry-enterable _ (start s .pre) (asked (start s)) _ (fine s)),
+      omega (arith, start s .pre .ledger .few),
+    )
+
+leg-number-requires : tie.Need-leg-number-requires
+leg-number-requires c κs = search needs
+
+obligation-number-requires : tie.Need-obligation-number-requires
+obligation-number-requires c κs = search needs
+
 returns : tie.Need-returns
 unfolding enter
-returns c = (refused-with _ _ _ (enterRefused _) (sym (c .before .enter-answer .ensures)) (c .if1 .taken), c .before .before .before .before .pre)
-
-leg-requires : tie.Need-leg-requires
-leg-requires c κs =
-    let g = fine c in
-    record {
-      member-fits = omega (arith, g .member-below);
-      other-fits = omega (arith, g .other-below);
-      side-fits = omega (arith, g .side-most);
-      quantity-fits = g .quantity-within .1;
-    }
-
-lowest-fit-requires : tie.Need-lowest-fit-requires
-lowest-fit-requires c κs = search needs
-
-enum-known-k : tie.Need-enum-known-k
-enum-known-k c = search needs
-
-enum-told : tie.Need-enum-told
-enum-told c = search needs
-
-add-requires : tie.Need-add-requires
-add-requires c κs = fine (c .before .before .before .before) .room
-
-returns-2 : tie.Need-returns-2
-unfolding enteredAlone
-returns-2 c =
-    let found = c .before .before .before in
-    let s = start (found .before .before) in
-    let a = s .args in
-    let leg = ap (λ (l : Leg). withLeg l (a .self .legs)) (found .before .leg .ensures) in
+returns c =
+    let s = c .before .before .before .before .before in
+    let b = start s .args .self in
+    let i = asked (start s) in
+    let e = c .before .before .before .before .entry in
+    let number = s .enter-answer .result in
+    let same : _≡_ {A = Entered} _ (enterReturns b number (e .result)) = λ j. record {
+      answer = number;
+      leg = c .before .leg-number .ensures j;
+      obligation = c .obligation-number .ensures j;
+      book = withLegs (c .before .before .enter .ensures j) (withLedger (c .before .before .before .with-match .ensures j) b);
+    } in
     answered (λ (r : Entered). r .book)
-    ((λ i. record { answer = 0; leg = a .self .legs .count; obligation = 0; book = withLegs ((c .add .ensures ∙ leg) i) (a .self) })
-    ∙ ap (enteredBy (a .self) (new s)) (sym (c .before .enum-told .given .1))
-    ∙ done found)
-    (enter-valid _ (s .pre) (a .member) (a .other) (a .side) (a .quantity) (a .amount) (a .day))
-
-enter-with-requires : tie.Need-enter-with-requires
-enter-with-requires c κs =
-    let found = c .before .before .before in
-    let asked = found .before .before in
-    let g = fine asked in
-    let r = matched-room _ (start asked .pre) _ _ g (fits found ∙ c .before .k .given .1) in
-    (r .0, g .room, r .1)
-
-returns-3 : tie.Need-returns-3
-returns-3 c =
-    let found = c .before .before .before .before in
-    let s = start (found .before .before) in
-    let a = s .args in
-    answered (λ (r : Entered). r .book)
-    (c .enter-with .ensures
-    ∙ ap (λ (l : Leg). enteredWith (a .self) l (c .before .before .k .given .0 .0)) (found .before .leg .ensures)
-    ∙ ap (enteredBy (a .self) (new s)) (sym (c .before .before .k .given .1))
-    ∙ done found)
-    (enter-valid _ (s .pre) (a .member) (a .other) (a .side) (a .quantity) (a .amount) (a .day))
+    (same
+    ∙ ap (enterReturns b number) (e .ensures)
+    ∙ entered-outcome b i number
+    ∙ ap (λ (n : ℕ). outcome n (enteredBy b (legOf i) (lowestFit (b .legs) (legOf i))) (enterRefused b)) (s .enter-answer .ensures))
+    (enter-valid b (start s .pre) (i .member) (i .other) (i .side) (i .quantity) (i .amount) (i .day))
 
 pub enter-spec : {M : Type 1} → statement M
 enter-spec =
     tie.close
     (tie.spec
     enter-answer-requires
-    returns
-    leg-requires
-    lowest-fit-requires
-    enum-known-k
-    enum-told
-    add-requires
-    returns-2
-    enter-with-requires
-    returns-3)
+    entry-requires
+    with-match-requires
+    enter-requires
+    leg-number-requires
+    obligation-number-requires
+    returns)

@@ -10,16 +10,20 @@ none-requires c κs = search needs
 new-requires : tie.Need-new-requires
 new-requires c κs = search needs
 
+none-requires-2 : tie.Need-none-requires-2
+none-requires-2 c κs = search needs
+
 terms-of-requires : tie.Need-terms-of-requires
 terms-of-requires c κs = search needs
 
 returns : tie.Need-returns
-returns c = let a = c .before .before .before .args in λ i. record {
-  legs = c .before .before .none .ensures i;
-  ledger = c .before .new .ensures i;
+returns c = let a = c .before .before .before .before .args in λ i. record {
+  legs = c .before .before .before .none .ensures i;
+  ledger = c .before .before .new .ensures i;
+  last = c .before .none2 .ensures i;
   setup = record { «closed_days» = a .closed-days; terms = c .terms-of .ensures i };
-  day = record { today = a .first; «close_since» = false };
+  day = record { today = a .first; «close_since» = false; «has_closed» = false };
 }
 
 pub fresh-spec : {M : Type 1} → statement M
-fresh-spec = tie.close (tie.spec none-requires new-requires terms-of-requires returns)
+fresh-spec = tie.close (tie.spec none-requires new-requires none-requires-2 terms-of-requires returns)

@@ -1,26 +1,20 @@
 -- `sold` meets its contract.
 use mathlib.Core.Path.{ap, _∙_}
-use Rattle.calendar.specs.Closed.{day}
 use Rattle.book.specs.declared.Book.{Book}
-use Rattle.book.specs.declared.Entered.{Entered}
-use Rattle.book.specs.Instructing.{enter}
 use borrow.Author.Needs.{needs}
+use Rattle.examples.specs.Played.{bookAfter, sale}
 use Rattle.examples.proofs.played.sold.Statement.{statement}
 use Rattle.examples.proofs.played.sold.Tie as tie
 
 opened-requires : tie.Need-opened-requires
 opened-requires c κs = search needs
 
-enter-requires : tie.Need-enter-requires
-enter-requires c κs = search needs
-
-enter-requires-2 : tie.Need-enter-requires-2
-enter-requires-2 c κs = search needs
+with-sale-requires : tie.Need-with-sale-requires
+with-sale-requires c κs = search needs
 
 returns : tie.Need-returns
-returns c = let s = c .before .before .before .before .before .args in
-    let one = ap (λ (o : Entered). o .book) (c .before .before .before .enter .ensures .0 ∙ ap (λ (b : Book). enter b 0 1 0 (s .quantity) (s .amount) (day 2)) (c .before .before .before .before .opened .ensures .0)) in
-    (ap (λ (o : Entered). o .book) (c .before .enter2 .ensures .0 ∙ ap (λ (b : Book). enter b 1 0 1 (s .quantity) (s .amount) (day 2)) one), search needs)
+returns c = let s = c .before .before .args in
+    (c .with-sale .ensures .0 ∙ ap (λ (b : Book). bookAfter b (sale 0 1 (s .quantity) (s .amount))) (c .before .opened .ensures .0), search needs)
 
 pub sold-spec : {M : Type 1} → statement M
-sold-spec = tie.close (tie.spec opened-requires enter-requires enter-requires-2 returns)
+sold-spec = tie.close (tie.spec opened-requires with-sale-requires returns)

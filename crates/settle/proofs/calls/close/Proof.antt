@@ -1,15 +1,12 @@
 -- `close` meets its contract.
 use Prim.Native.Nat.{ℕ}
 use lib.ListN.{length}
-use mathlib.Core.List.{List, _++_}
-use mathlib.Core.Path.{sym, ap, ap₂, _∙_}
+use mathlib.Core.List.{List}
+use mathlib.Core.Path.{sym}
 use borrow.Author.Needs.{needs}
-use Rattle.settle.proofs.Lending.{filled-front, filled-rest, filled-length}
-use Rattle.settle.specs.Calls.{played, answerBy, wordsBy}
-use Rattle.settle.specs.declared.calls.Played.{Played}
+use Rattle.settle.proofs.Lending.{filled-length, lines-answered}
+use Rattle.settle.specs.Calls.{answerBy, wordsBy}
 use Rattle.book.specs.Close.{close, closeWords}
-use Rattle.book.specs.declared.Closed.{Closed}
-use Rattle.answers.specs.Told.{closedTold}
 use Rattle.settle.proofs.calls.close.Statement.{statement}
 use Rattle.settle.proofs.calls.close.Tie as tie
 
@@ -38,16 +35,10 @@ returns c =
     let a = s .args .a in
     let done = c .before .before .before .before .close in
     let f = c .before .before .before .before .before .before .before .before .fill .ensures in
-    let front = filled-front (a .lent) (a .fill) (s .args .words .now) _ f in
-    let told : Closed → Played = λ (r : Closed). played (r .book) (closedTold (r .answer) (r .count) (a .lent) (a .fill)) in (
-      ap (played (done .result .book)) (c .closed .ensures)
-          ∙ ap told (done .ensures .0 ∙ ap (λ (ws : List ℕ). close (s .args .book) (a .first) (a .second) (length ws)) front),
-      (
-        ap₂ _++_ (done .ensures .1 .0 ∙ ap (closeWords (s .args .book) (a .first) (a .second)) front)
-            (filled-rest (a .lent) (a .fill) (s .args .words .now) _ f),
-        done .ensures .1 .1,
-      ),
-    )
+    let is =
+    lines-answered (a .lent) (a .fill) (s .args .words .now) _ f (λ (ws : List ℕ). close (s .args .book) (a .first) (a .second) (length ws)) (closeWords (s .args .book) (a .first) (a .second))
+    (done .result) _ (done .ensures .0) (done .ensures .1 .0) (c .closed .ensures) in
+    (is .0, (is .1, done .ensures .1 .1))
 
 pub close-spec : {M : Type 1} → statement M
 close-spec =

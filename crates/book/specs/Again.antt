@@ -1,0 +1,27 @@
+-- Again.
+use Prim.Native.Nat.{ℕ}
+use mathlib.Core.List.{List}
+use lib.ListN.{length}
+use Rattle.closing.specs.Lines.{written}
+use Rattle.reprint.specs.Kept.{linesKept}
+use Rattle.refusals.specs.Refusals.{answer, outcome}
+use Rattle.refusals.specs.Calls.{againRefusals}
+use Rattle.book.specs.declared.Book.{Book}
+use Rattle.book.specs.declared.Closed.{Closed}
+use Rattle.book.specs.Close.{closeRefused}
+
+-- A17, Refusals, of Again: its answer number, with this many words lent
+abbrev pub againNumber : Book → ℕ → ℕ
+againNumber b words = answer (againRefusals (b .day .«has_closed») words)
+
+-- N2 and N5, Again: if it is done, it returns the number of lines that the latest Close returned, and the same book
+abbrev pub againDone : Book → Closed
+againDone b = record { answer = 0; count = b .last .count; book = b }
+
+-- N1 to N5, Again: with this many words lent
+unfoldable pub again : Book → ℕ → Closed
+again b words = outcome (againNumber b words) (againDone b) (closeRefused b)
+
+-- N2 and A5, Again: every word of the lent list as it ends. The lines of the latest Close stand at its front.
+unfoldable pub againWords : Book → List ℕ → List ℕ
+againWords b ws = outcome (againNumber b (length ws)) (written (linesKept (b .last)) ws) (λ n. ws)

@@ -1,0 +1,2 @@
+-- Kept has the lines of the latest Close, as the book keeps them.
+pub mod Kept
