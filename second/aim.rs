@@ -4,7 +4,7 @@ use std::collections::BTreeSet;
 use std::io::{self, Write};
 
 use crate::book::{
-    LegState, Obligation, CLOSE_WORDS, LAST_DAY, LINE_WORDS, MAX_SETTLEMENT_DAY, MEMBERS,
+    owed, LegState, Obligation, CLOSE_WORDS, LAST_DAY, LINE_WORDS, MAX_SETTLEMENT_DAY, MEMBERS,
 };
 use crate::journal::{NAMES, RULES};
 use crate::{Cast, Generator};
@@ -91,6 +91,14 @@ fn limits(name: &str) -> &'static [u64] {
     }
 }
 
+/// The arguments of a Month.
+pub fn month_words(collected: &[u64], places: u64, fill: u64) -> Vec<u64> {
+    let mut words = vec![collected.len() as u64];
+    words.extend(collected);
+    words.extend([places, fill]);
+    words
+}
+
 /// The n-th weekday after a day that is in none of the closed days.
 fn nth_open_day(closed: &BTreeSet<u64>, day: u64, n: u64) -> u64 {
     let is_open = |day: &u64| (2..=6).contains(&(day % 7)) && !closed.contains(day);
@@ -109,7 +117,7 @@ impl<W: Write> Generator<W> {
     }
 
     /// A fill for lent lists; the large ones can't be mistaken for a result.
-    fn fill(&mut self) -> u64 {
+    pub fn fill(&mut self) -> u64 {
         match self.random.below(6) {
             0 => 0,
             1 => self.edge(),
@@ -485,13 +493,24 @@ impl<W: Write> Generator<W> {
 
     // ------------------------------------------------------------ months
 
-    /// Collected amounts: in full, in part, nothing, a few cents, or too much.
+    /// A Month; every fourth one is empty.
     pub fn month_arguments(&mut self) -> Vec<u64> {
-        let owed = self
-            .player
-            .book
-            .accounts
-            .map(|account| account.min(0).unsigned_abs());
+        let collected = if self.random.percent(25) {
+            Vec::new()
+        } else {
+            self.collected_amounts()
+        };
+        let places = if self.random.percent(6) {
+            self.list_length()
+        } else {
+            MEMBERS
+        };
+        month_words(&collected, places as u64, self.fill())
+    }
+
+    /// Collected amounts: in full, in part, nothing, a few cents, or too much.
+    fn collected_amounts(&mut self) -> Vec<u64> {
+        let owed = self.owed();
         let manner = self.random.below(10);
         let mut collected: Vec<u64> = owed.iter().map(|&owed| self.paid(owed, manner)).collect();
         if self.random.percent(12) {
@@ -501,18 +520,15 @@ impl<W: Write> Generator<W> {
                 _ => owed[member] + 1,
             };
         }
-        let (mut length, mut places) = (32, 32);
         if self.random.percent(6) {
-            length = self.list_length();
+            collected.resize(self.list_length(), 0);
         }
-        if self.random.percent(6) {
-            places = self.list_length();
-        }
-        collected.resize(length, 0);
-        let mut arguments = vec![length as u64];
-        arguments.extend(collected);
-        arguments.extend([places as u64, self.fill()]);
-        arguments
+        collected
+    }
+
+    /// What each member owes now.
+    pub fn owed(&self) -> [u64; MEMBERS] {
+        owed(&self.player.book.accounts)
     }
 
     fn paid(&mut self, owed: u64, manner: u64) -> u64 {

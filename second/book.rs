@@ -1,8 +1,8 @@
 //! The settlement discipline book of one bond.
 //!
-//! "Rules" in the comments names a chapter of the rules and an item of it, "P1" the change request
-//! of that number. Every call tests its refusals in rising order of their numbers and changes the
-//! book only when it is accepted.
+//! "Rules" in the comments names a chapter of the rules and an item of it, "P1" or "P2" the change
+//! request of that number. Every call tests its refusals in rising order of their numbers and changes
+//! the book only when it is accepted.
 
 use std::cmp::Reverse;
 use std::ops::RangeInclusive;
@@ -39,6 +39,9 @@ const COMPENSATED: u64 = 4;
 
 /// The number of a refusal (rules, Refusals).
 pub type Refusal = u8;
+
+/// Rules, Month: the signed accounts of all members.
+pub type Accounts = [i64; MEMBERS];
 
 /// Refuses with the number given if its condition holds.
 fn refuse_if(number: Refusal, holds: bool) -> Result<(), Refusal> {
@@ -164,8 +167,13 @@ fn within_cap(offer_price: u64, grace_price: u64) -> bool {
     100 * offer_price <= 108 * grace_price
 }
 
+/// Rules, Month: a negative account owes its size, any other owes nothing.
+pub fn owed(accounts: &Accounts) -> [u64; MEMBERS] {
+    accounts.map(|account| account.min(0).unsigned_abs())
+}
+
 /// Rules, Month: the shares of the sum collected.
-fn shares(accounts: &[i64; MEMBERS], collected: u128) -> [u64; MEMBERS] {
+fn shares(accounts: &Accounts, collected: u128) -> [u64; MEMBERS] {
     let mut shares = [0; MEMBERS];
     let claims = accounts.map(|account| account.max(0) as u128);
     let all_claims: u128 = claims.iter().sum();
@@ -320,7 +328,7 @@ pub struct Book {
     pub legs: Vec<Leg>,
     pub obligations: Vec<Obligation>,
     pub offers: Vec<Offer>,
-    pub accounts: [i64; MEMBERS],
+    pub accounts: Accounts,
     /// Whether a Close was accepted since Open or the last accepted Month.
     pub closed_since_month: bool,
     /// P1: the lines of the latest accepted Close, if there was one since Open.
@@ -583,20 +591,21 @@ impl Book {
         }
     }
 
-    /// Rules, Month.
+    /// Rules, Month, and P2: an empty list of collected amounts means that each debtor paid what it
+    /// owes.
     pub fn month(&mut self, collected: &[u64], payouts: &mut [u64]) -> Result<(), Refusal> {
-        refuse_if(5, collected.len() != MEMBERS || payouts.len() != MEMBERS)?;
-        let owed = self.accounts.map(|account| account.min(0).unsigned_abs());
-        refuse_if(
-            19,
+        let wrong_length = ![0, MEMBERS].contains(&collected.len());
+        refuse_if(5, wrong_length || payouts.len() != MEMBERS)?;
+        let owed = owed(&self.accounts);
+        let paid = if collected.is_empty() {
+            &owed[..]
+        } else {
             collected
-                .iter()
-                .zip(owed)
-                .any(|(&amount, owed)| amount > owed),
-        )?;
+        };
+        refuse_if(19, paid.iter().zip(owed).any(|(&paid, owed)| paid > owed))?;
         refuse_if(21, !self.closed_since_month)?;
 
-        let sum = collected.iter().map(|&amount| u128::from(amount)).sum();
+        let sum = paid.iter().map(|&amount| u128::from(amount)).sum();
         payouts.copy_from_slice(&shares(&self.accounts, sum));
         self.accounts = [0; MEMBERS];
         self.closed_since_month = false;
@@ -669,6 +678,39 @@ mod tests {
         book.enter(0, 1, 0, quantity, amount, day).unwrap();
         let (_, plus_1) = book.enter(1, 0, 1, quantity, amount, day).unwrap();
         plus_1 - 1
+    }
+
+    /// A book whose Close made two debtors and three creditors.
+    fn debtors_and_creditors() -> Book {
+        let mut book = book(1);
+        for (seller, buyer, quantity) in [(0, 31, 700), (0, 5, 300), (9, 5, 1), (9, 2, 33)] {
+            book.enter(seller, buyer, 0, quantity, 1_000, 2).unwrap();
+            book.enter(buyer, seller, 1, quantity, 1_000, 2).unwrap();
+        }
+        close(&mut book, 100_000, 10);
+        let expected = [(0, -1_000), (9, -34), (2, 33), (5, 301), (31, 700)];
+        assert_eq!(book.accounts, accounts(&expected));
+        book
+    }
+
+    /// The answer of a Month, the book and the payouts as it leaves them.
+    type Ended = (Result<(), Refusal>, Book, Vec<u64>);
+
+    /// A Month with so many places on a copy of the book.
+    fn month_on(book: &Book, collected: &[u64], places: usize) -> Ended {
+        let (mut book, mut payouts) = (book.clone(), vec![5; places]);
+        let answer = book.month(collected, &mut payouts);
+        (answer, book, payouts)
+    }
+
+    /// Checks a Month typed with just what each member owes against an empty one on the same book.
+    fn assert_same_month(book: &Book, places: usize, answer: Result<(), Refusal>) {
+        let empty = month_on(book, &[], places);
+        assert_eq!(empty, month_on(book, &owed(&book.accounts), places));
+        assert_eq!(empty.0, answer, "{places} places");
+        if answer.is_err() {
+            assert_eq!((&empty.1, empty.2), (book, vec![5; places]));
+        }
     }
 
     /// The lines at the front of a list of 77s, whose other words were left as they were.
@@ -752,7 +794,7 @@ mod tests {
         answer.map(|()| payouts)
     }
 
-    fn accounts(of: &[(usize, i64)]) -> [i64; MEMBERS] {
+    fn accounts(of: &[(usize, i64)]) -> Accounts {
         let mut accounts = [0; MEMBERS];
         for &(member, cents) in of {
             accounts[member] = cents;
@@ -1170,6 +1212,63 @@ mod tests {
         assert_eq!(month(&mut book, &[]), Err(21));
         close(&mut book, 100_000, 0);
         assert_eq!(month(&mut book, &[]), Ok([0; MEMBERS]));
+    }
+
+    #[test]
+    fn an_empty_month_pays_each_claim() {
+        let (answer, book, payouts) = month_on(&debtors_and_creditors(), &[], MEMBERS);
+        let mut claims = [0; MEMBERS];
+        (claims[2], claims[5], claims[31]) = (33, 301, 700);
+        assert_eq!((answer, payouts), (Ok(()), claims.to_vec()));
+        assert_eq!((book.accounts, book.closed_since_month), ([0; 32], false));
+    }
+
+    #[test]
+    fn an_empty_month_ends_as_one_typed_in_full() {
+        let mut book = debtors_and_creditors();
+        assert_same_month(&book, MEMBERS, Ok(()));
+        for places in [0, 1, 31, 33, 64] {
+            assert_same_month(&book, places, Err(5));
+        }
+        // After the Month, and then after a Close that adds to the accounts again.
+        book = month_on(&book, &[], MEMBERS).1;
+        assert_same_month(&book, MEMBERS, Err(21));
+        assert_same_month(&book, 31, Err(5)); // before 21
+        close(&mut book, 77_777, 99);
+        assert_same_month(&book, MEMBERS, Ok(()));
+        // With all accounts at zero, and with as much on them as there can be.
+        assert_same_month(&full_close().0, MEMBERS, Ok(()));
+        book.accounts = accounts(&[(30, -3_456_000_000), (31, 3_456_000_000)]);
+        assert_same_month(&book, MEMBERS, Ok(()));
+        assert_eq!(month_on(&book, &[], MEMBERS).2[31], 3_456_000_000);
+    }
+
+    #[test]
+    fn an_empty_month_needs_a_close() {
+        for new in [book(0), book(1), Book::of_refused_open()] {
+            assert_same_month(&new, MEMBERS, Err(21));
+            assert_same_month(&new, 0, Err(5));
+            assert_same_month(&new, 33, Err(5));
+        }
+    }
+
+    #[test]
+    fn zeros_are_no_empty_month() {
+        let (answer, book, payouts) = month_on(&debtors_and_creditors(), &[0; 32], MEMBERS);
+        assert_eq!((answer, payouts), (Ok(()), vec![0; 32]));
+        assert_eq!(book, month_on(&debtors_and_creditors(), &[], MEMBERS).1);
+    }
+
+    #[test]
+    fn a_list_is_of_0_or_of_32() {
+        for book in [book(0), debtors_and_creditors(), full_close().0] {
+            for length in [1, 2, 31, 33, 64, 4_096] {
+                for amount in [0, u64::MAX] {
+                    let ended = month_on(&book, &vec![amount; length], MEMBERS);
+                    assert_eq!(ended, (Err(5), book.clone(), vec![5; 32]), "{length}");
+                }
+            }
+        }
     }
 
     #[test]

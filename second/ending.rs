@@ -264,6 +264,31 @@ mod tests {
     }
 
     #[test]
+    fn empty_months_have_places_of_all_numbers() {
+        for start in [
+            &b"month 0 0 "[..],
+            b"month 0 31 ",
+            b"month 0 32 ",
+            b"month 0 33 ",
+        ] {
+            assert!(any_line(|written| written.starts_with(start)), "{start:?}");
+        }
+    }
+
+    #[test]
+    fn empty_months_are_written_wrongly_too() {
+        for line in [
+            &b"month"[..],
+            b"month 0",
+            b"month 0 32",
+            b"month 0 32 ",
+            b"month 0 32 7 7",
+        ] {
+            assert!(any_line(|written| written == line), "{line:?}");
+        }
+    }
+
+    #[test]
     fn again_has_lists_of_all_lengths() {
         for start in [
             &b"again 1151 "[..],

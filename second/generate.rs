@@ -2,14 +2,15 @@
 //!
 //! The generator plays its own journal on the book, so that it can aim: it knows the waiting legs,
 //! the open obligations, their ages and the accounts. `aim` makes plausible calls and spoils them,
-//! `scenario` strings them together, `malformed` makes lines that are no calls, `ending` makes the
-//! last line.
+//! `scenario` and `paid` string them together, `malformed` makes lines that are no calls, `ending`
+//! makes the last line.
 
 mod aim;
 mod book;
 mod ending;
 mod journal;
 mod malformed;
+mod paid;
 mod play;
 mod random;
 mod scenario;
@@ -48,6 +49,8 @@ pub struct Generator<W: Write> {
     /// In so many of a hundred cases a call is followed by a reading, and by noise.
     readings: u64,
     noise: u64,
+    /// The lines that are to be written once more, while they are recorded.
+    recorded: Option<Vec<Vec<u8>>>,
     numbers: Vec<u64>,
     answer: Vec<u8>,
 }
@@ -68,6 +71,7 @@ impl<W: Write> Generator<W> {
             },
             readings: 30,
             noise: 5,
+            recorded: None,
             numbers: Vec::new(),
             answer: Vec::new(),
         }
@@ -81,6 +85,9 @@ impl<W: Write> Generator<W> {
     fn line(&mut self, line: &[u8]) -> io::Result<Option<Refusal>> {
         self.out.write_all(line)?;
         self.out.write_all(b"\n")?;
+        if let Some(lines) = &mut self.recorded {
+            lines.push(line.to_vec());
+        }
         if is_comment(line) {
             return Ok(None);
         }
@@ -136,9 +143,13 @@ impl<W: Write> Generator<W> {
 
     /// Writes the journal. A journal of no calls is an empty text.
     fn write_all(&mut self, ending: Ending) -> io::Result<()> {
-        // The book before the first Open is a book too: it can have Closes, and show them again.
+        // The book before the first Open is a book too: it can have Closes, and show them again, and
+        // it can have Months.
         if self.random.percent(50) {
             self.life_with_jams()?;
+        }
+        if self.random.percent(50) {
+            self.life_of_empty_months()?;
         }
         let mut idle = 0;
         while !self.is_done() && idle < IDLE_SCENARIOS {

@@ -2,8 +2,9 @@
 
 use std::fmt::Write;
 
-use crate::book::Refusal;
+use crate::book::{Accounts, Refusal};
 use crate::journal::{Call, CallSet, NAMES, RULES};
+use crate::month_traps::MonthTraps;
 use crate::traps::Traps;
 
 /// The answer numbers that each call can give, in the order of the names.
@@ -23,6 +24,7 @@ const ANSWERS: [&[Refusal]; NAMES.len()] = [
     &[0],
 ];
 const CLOSE: usize = 6;
+const MONTH: usize = 7;
 const AGAIN: usize = 11;
 
 /// What a torn last line says, though it is no call.
@@ -39,7 +41,8 @@ const TORN: [&str; 4] = ["call", "no-call", "too-long", "comment"];
 
 pub struct Hits {
     answers: [[u64; 32]; NAMES.len()],
-    traps: Traps,
+    again_traps: Traps,
+    month_traps: MonthTraps,
     malformed: u64,
     torn: [u64; TORN.len()],
     whole: u64,
@@ -50,7 +53,8 @@ impl Hits {
     pub fn new() -> Self {
         Hits {
             answers: [[0; 32]; NAMES.len()],
-            traps: Traps::default(),
+            again_traps: Traps::default(),
+            month_traps: MonthTraps::default(),
             malformed: 0,
             torn: [0; TORN.len()],
             whole: 0,
@@ -58,11 +62,13 @@ impl Hits {
         }
     }
 
-    /// A call that was played. `lines` is the number of lines of the latest accepted Close then.
-    pub fn call(&mut self, call: &Call, answer: Refusal, lines: usize) {
+    /// A call that was played. The accounts are those just before it, `lines` is the number of lines
+    /// of the latest accepted Close after it.
+    pub fn call(&mut self, call: &Call, answer: Refusal, accounts: &Accounts, lines: usize) {
         let place = index(call);
         self.answers[place][usize::from(answer)] += 1;
-        self.traps.call(place, call, answer, lines);
+        self.again_traps.call(place, call, answer, lines);
+        self.month_traps.call(call, answer, accounts);
     }
 
     /// A whole line that is no call; the torn ones are counted apart.
@@ -81,8 +87,8 @@ impl Hits {
     }
 
     /// One line for each pair of a call and an answer it can give, also for those not reached,
-    /// for the kinds of a Close's lines and the traps of Again, and for the lines that are no calls
-    /// and the ways in which a journal can end.
+    /// for the kinds of a Close's lines and the traps of Again and Month, and for the lines that are
+    /// no calls and the ways in which a journal can end.
     pub fn table(&self, calls: &CallSet, kinds: &[u64; 5]) -> String {
         let mut table = String::new();
         let mut row =
@@ -103,7 +109,12 @@ impl Hits {
             }
         }
         if calls.has(AGAIN) {
-            for (trap, count) in self.traps.rows() {
+            for (trap, count) in self.again_traps.rows() {
+                row(format_args!("trap {trap} {count}"));
+            }
+        }
+        if calls.has(MONTH) {
+            for (trap, count) in self.month_traps.rows() {
                 row(format_args!("trap {trap} {count}"));
             }
         }
@@ -127,7 +138,7 @@ fn index(call: &Call) -> usize {
         Call::Deliver { .. } => 4,
         Call::Offer { .. } => 5,
         Call::Close { .. } => CLOSE,
-        Call::Month { .. } => 7,
+        Call::Month { .. } => MONTH,
         Call::Status { .. } => 8,
         Call::Account { .. } => 9,
         Call::Look { .. } => 10,
@@ -139,6 +150,7 @@ fn index(call: &Call) -> usize {
 #[cfg(test)]
 mod tests {
     use super::*;
+    use crate::book::MEMBERS;
 
     /// The rows of the table that were met.
     fn met(hits: &Hits, calls: &CallSet) -> Vec<String> {
@@ -151,8 +163,8 @@ mod tests {
     fn what_is_met_is_counted() {
         let mut hits = Hits::new();
         assert_eq!(met(&hits, &CallSet::all()), [""; 0]);
-        hits.call(&Call::Rules, 0, 0);
-        hits.call(&Call::Rules, 0, 0);
+        hits.call(&Call::Rules, 0, &[0; MEMBERS], 0);
+        hits.call(&Call::Rules, 0, &[0; MEMBERS], 0);
         hits.malformed();
         for says in [Torn::Call, Torn::NoCall, Torn::TooLong, Torn::Comment] {
             hits.torn(says);
@@ -183,6 +195,8 @@ mod tests {
             "rules 0 0",
             "kind 4 0",
             "trap again-192-lines 0",
+            "trap month-empty-large 0",
+            "trap month-pair-21 0",
             "torn comment 0",
             "end 0",
         ] {
@@ -191,9 +205,16 @@ mod tests {
     }
 
     #[test]
-    fn without_again_there_are_no_traps() {
-        let calls = CallSet::listed("open,close,rules").unwrap();
-        let table = Hits::new().table(&calls, &[0; 5]);
-        assert!(!table.contains("trap") && !table.contains("again"));
+    fn a_call_that_is_not_listed_has_no_traps() {
+        for (list, again, month) in [
+            ("open,close,rules", false, false),
+            ("open,close,again", true, false),
+            ("open,close,month", false, true),
+        ] {
+            let calls = CallSet::listed(list).unwrap();
+            let table = Hits::new().table(&calls, &[0; 5]);
+            assert_eq!(table.contains("trap again-"), again, "{list}");
+            assert_eq!(table.contains("trap month-"), month, "{list}");
+        }
     }
 }

@@ -38,7 +38,7 @@ impl CallSet {
 }
 
 /// A call and its arguments.
-#[derive(Clone, Copy, Debug, PartialEq)]
+#[derive(Clone, Copy, Debug, Hash, PartialEq)]
 pub enum Call<'a> {
     Open {
         first_day: u64,
@@ -267,6 +267,20 @@ mod tests {
             "end",
             "end 1",
             "? line 1",
+        ]);
+    }
+
+    #[test]
+    fn an_empty_month_has_places_and_a_fill() {
+        assert_no_calls(&[
+            "month",
+            "month 0",
+            "month 0 32 ",
+            "month 0  32 7",
+            "month 0 32 7 7",
+            "month 32 7",
+            "month 32 32 7",
+            "month -0 32 7",
         ]);
     }
 

@@ -5,8 +5,10 @@ mod check;
 mod hits;
 mod journal;
 mod lines;
+mod month_traps;
 mod play;
 mod traps;
+mod twins;
 
 use std::env;
 use std::fs::File;
@@ -81,9 +83,10 @@ impl<R: Read> Run<R> {
             return;
         }
         if let Some(call) = parse(line, &self.calls, &mut self.numbers) {
+            let accounts = self.player.book.accounts;
             let answer = self.player.play(call, out);
             let lines = self.player.book.lines_to_show();
-            self.hits.call(&call, answer, lines);
+            self.hits.call(&call, answer, &accounts, lines);
         } else {
             put_line(out, b"? line ", self.journal.number);
             self.hits.malformed();
@@ -260,9 +263,9 @@ mod tests {
     fn the_end_counts_every_line() {
         assert_eq!(answers(b""), "end 0\n");
         assert_eq!(answers(b"\n"), "end 1\n");
-        assert_eq!(answers(b"#\n\nrules\nx\n"), "0 1\n? line 4\nend 4\n");
-        assert_eq!(answers(b"rules\n#"), "0 1\nend 2\n");
-        assert_eq!(answers(b"rules\n\nx"), "0 1\n? line 3\nend 3\n");
+        assert_eq!(answers(b"#\n\nrules\nx\n"), "0 2\n? line 4\nend 4\n");
+        assert_eq!(answers(b"rules\n#"), "0 2\nend 2\n");
+        assert_eq!(answers(b"rules\n\nx"), "0 2\n? line 3\nend 3\n");
     }
 
     #[test]
@@ -318,14 +321,27 @@ mod tests {
         }
     }
 
-    /// Checks which traps a journal meets, each of them once.
-    fn assert_traps(journal: &str, traps: &[&str]) {
+    /// Checks which traps of a name a journal meets, each of them once.
+    fn assert_traps_named(name: &str, journal: &str, traps: &[&str]) {
         let rows = met(journal.as_bytes());
         let found: Vec<&str> = rows
             .iter()
-            .filter_map(|row| row.strip_prefix("trap again-")?.strip_suffix(" 1"))
+            .filter_map(|row| row.strip_prefix(name)?.strip_suffix(" 1"))
             .collect();
         assert_eq!(found, traps, "{journal}");
+    }
+
+    fn assert_traps(journal: &str, traps: &[&str]) {
+        assert_traps_named("trap again-", journal, traps);
+    }
+
+    fn assert_month_traps(journal: &str, traps: &[&str]) {
+        assert_traps_named("trap month-", journal, traps);
+    }
+
+    /// The line of a Month whose member 0 paid so much, with 32 places.
+    fn typed(length: usize, paid: u64) -> String {
+        format!("month {length} {paid}{} 32 8", " 0".repeat(length - 1))
     }
 
     #[test]
@@ -423,6 +439,191 @@ mod tests {
     }
 
     #[test]
+    fn the_traps_of_months_before_a_close_are_counted() {
+        let traps: [(&str, &[&str]); 9] = [
+            ("month 0 0 8", &["empty-5-of-0-not-21"]),
+            ("month 0 31 8", &["empty-5-of-31-not-21"]),
+            ("month 0 33 8", &["empty-5-of-33-not-21"]),
+            ("month 0 30 8", &[]),
+            (&typed(1, 0), &["5-list-of-1-not-21"]),
+            (&typed(31, 0), &["5-list-of-31-not-21"]),
+            (&typed(33, 0), &["5-list-of-33-not-21"]),
+            (&typed(32, 0), &[]),
+            ("month 0 32 8", &["empty-21-no-close"]),
+        ];
+        for (journal, traps) in traps {
+            assert_month_traps(&format!("open 2 1 0\n{journal}\n"), traps);
+        }
+        assert_month_traps(
+            "month 0 32 8\n",
+            &["empty-21-no-close", "empty-21-before-open"],
+        );
+        assert_month_traps(
+            "open 2 2 0\nmonth 0 32 8\n",
+            &["empty-21-no-close", "empty-21-after-refused-open"],
+        );
+        assert_month_traps("close 1 1 1152 0\nmonth 0 32 8\n", &["empty-all-zero"]);
+    }
+
+    /// An obligation of member 0 to member 1, and a Close by which 30 cents are owed.
+    const OWED: &str = "enter 0 1 0 3 1000 2\nenter 1 0 1 3 1000 2\nclose 100000 100 1152 1\n";
+
+    #[test]
+    fn the_traps_of_months_after_a_close_are_counted() {
+        let (zeros, in_full) = (typed(32, 0), typed(32, 30));
+        let traps: [(&str, &[&str]); 12] = [
+            ("month 0 0 8", &["empty-5-of-0"]),
+            ("month 0 31 8", &["empty-5-of-31"]),
+            ("month 0 33 8", &["empty-5-of-33"]),
+            (&typed(1, 30), &["5-list-of-1"]),
+            (&typed(31, 30), &["5-list-of-31"]),
+            (&typed(33, 30), &["5-list-of-33"]),
+            (&in_full, &[]),
+            (&typed(32, 29), &[]),
+            (&zeros, &["zeros-owed"]),
+            (
+                "month 0 32 8\nmonth 0 32 8",
+                &["empty-21-after-empty", "empty-done"],
+            ),
+            (
+                &format!("{in_full}\nmonth 0 32 8"),
+                &["empty-21-after-month"],
+            ),
+            (
+                &format!("month 0 32 8\n{zeros}\naccount 0\n{zeros}"),
+                &["21-after-empty", "empty-done"],
+            ),
+        ];
+        for (journal, traps) in traps {
+            assert_month_traps(&format!("open 2 1 0\n{OWED}{journal}\n"), traps);
+        }
+        assert_month_traps(
+            &format!("{OWED}month 0 32 8\n"),
+            &["empty-done", "empty-before-open"],
+        );
+        assert_month_traps(
+            &format!("open 2 2 0\n{OWED}month 0 32 8\n"),
+            &["empty-done", "empty-after-refused-open"],
+        );
+    }
+
+    #[test]
+    fn the_traps_of_months_after_a_month_are_counted() {
+        let (first, second) = ("open 2 1 0\n", "close 100000 100 1152 1\n");
+        let in_full = typed(32, 30);
+        for (one, other, traps) in [
+            (&in_full[..], &in_full[..], &[][..]),
+            (
+                &in_full,
+                "month 0 32 8",
+                &["empty-done", "empty-after-month"],
+            ),
+            ("month 0 32 8", &in_full, &["empty-done", "after-empty"]),
+        ] {
+            assert_month_traps(&format!("{first}{OWED}{one}\n{second}{other}\n"), traps);
+        }
+        let empty = "month 0 32 8\n";
+        let rows = met(format!("{first}{OWED}{empty}{second}{empty}").as_bytes());
+        for row in ["trap month-empty-done 2", "trap month-empty-after-empty 1"] {
+            assert!(rows.iter().any(|met| met == row), "{row}");
+        }
+    }
+
+    #[test]
+    fn large_months_are_counted() {
+        let pair = "enter 0 1 0 100000 1 2\nenter 1 0 1 100000 1 2\n".repeat(64);
+        let closes = "close 150000 100 1152 0\n".repeat(36);
+        assert_month_traps(
+            &format!("open 2 0 0\n{pair}{closes}month 0 32 8\n"),
+            &["empty-done", "empty-large"],
+        );
+    }
+
+    #[test]
+    fn months_with_offers_are_counted() {
+        let closes = "close 100000 100 1152 0\n".repeat(10);
+        let offered = format!("open 2 1 0\n{OWED}{closes}offer 0 7 1 1\n");
+        assert_month_traps(
+            &format!("{offered}month 0 32 8\n"),
+            &["empty-done", "empty-with-offers"],
+        );
+        assert_month_traps(
+            &format!("{offered}close 1 1 1152 0\nmonth 0 32 8\n"),
+            &["empty-done"],
+        );
+    }
+
+    /// The rows that two books meet as twins. They begin with the calls given, and one has an empty
+    /// Month where the other has the typed one.
+    fn pair_rows(before: &str, typed: &str, places: &str, after: &str) -> Vec<String> {
+        let typed = typed.replace(" 32 8", &format!(" {places} 8"));
+        let empty = format!("month 0 {places} 8");
+        let books = [&typed, &empty].map(|month| format!("open 2 1 0\n{before}{month}\n{after}"));
+        let rows = met(books.concat().as_bytes());
+        let reversed = met([&books[1][..], &books[0]].concat().as_bytes());
+        let pairs = |rows: Vec<String>| -> Vec<String> {
+            let names = rows
+                .iter()
+                .filter_map(|row| row.strip_prefix("trap month-pair-"));
+            names.map(str::to_string).collect()
+        };
+        let found = pairs(rows);
+        assert_eq!(found, pairs(reversed));
+        found
+    }
+
+    #[test]
+    fn pairs_of_months_are_counted() {
+        let (zeros, in_full) = (typed(32, 0), typed(32, 30));
+        let no_pair: [&str; 0] = [];
+        assert_eq!(pair_rows(OWED, &in_full, "32", ""), ["done 1"]);
+        assert_eq!(pair_rows(OWED, &in_full, "31", ""), ["5-of-31 1"]);
+        assert_eq!(pair_rows(OWED, &in_full, "33", ""), ["5-of-33 1"]);
+        assert_eq!(pair_rows(OWED, &typed(32, 29), "32", ""), no_pair);
+        assert_eq!(pair_rows(OWED, &zeros, "32", ""), no_pair);
+        assert_eq!(pair_rows(OWED, "month 0 32 8", "32", ""), no_pair);
+        assert_eq!(pair_rows("", &zeros, "32", ""), ["21 1"]);
+        let close = "close 1 1 1152 0\n";
+        assert_eq!(pair_rows(close, &zeros, "32", ""), ["all-zero 1"]);
+    }
+
+    #[test]
+    fn what_follows_a_pair_is_counted() {
+        let (zeros, in_full) = (typed(32, 0), typed(32, 30));
+        let after = "account 0\naccount 1\naccount 2\naccount 32\nmonth 0 32 8\nlook 0\n\
+            close 100000 100 1152 1\naccount 0\nmonth 0 32 8\nmonth 0 32 8\n";
+        assert_eq!(
+            pair_rows(OWED, &in_full, "32", after),
+            [
+                "done 1",
+                "done-then-account 2",
+                "done-then-21 1",
+                "done-then-done 1"
+            ]
+        );
+        assert_eq!(
+            pair_rows(OWED, &in_full, "33", after),
+            ["5-of-33 1", "5-then-account 2", "5-then-done 1"]
+        );
+        assert_eq!(pair_rows("", &zeros, "32", after), ["21 1", "21-then-21 1"]);
+    }
+
+    #[test]
+    fn books_with_other_calls_are_no_twins() {
+        let in_full = typed(32, 30);
+        let books = [
+            format!("open 2 1 0\n{OWED}{in_full}\naccount 0\n"),
+            format!("open 2 1 0\n{OWED}month 0 32 8\nlook 0\naccount 0\n"),
+            format!("open 2 0 0\n{OWED}{in_full}\naccount 0\n"),
+            format!("open 2 0 0\n{OWED}look 0\nmonth 0 32 8\naccount 0\n"),
+            format!("open 2 1 0\n{OWED}month 0 32 9\naccount 0\n"),
+        ];
+        let rows = met(books.concat().as_bytes());
+        let pairs: Vec<_> = rows.iter().filter(|row| row.contains("-pair-")).collect();
+        assert_eq!(pairs, ["trap month-pair-done 1"]);
+    }
+
+    #[test]
     fn own_answers_show_no_difference() {
         for journal in [
             &b""[..],
@@ -437,17 +638,23 @@ mod tests {
 
     #[test]
     fn the_end_is_compared() {
-        let missing = difference(b"rules\n", "0 1\n").unwrap();
+        let missing = difference(b"rules\n", "0 2\n").unwrap();
         assert_eq!(
             missing,
             "line 1: (the end of the journal)\nexpected: end 1\ngiven:    (nothing)\n\
             The last line of the answers is missing.\n"
         );
         assert!(difference(b"", "").unwrap().contains("is missing"));
-        assert!(difference(b"rules\n", "0 1\nend 1")
+        assert!(difference(b"rules\n", "0 2\nend 1")
             .unwrap()
             .ends_with("given:    end 1 (and no line feed)\n"));
-        for given in ["0 1\nend 0\n", "0 1\nend 2\n", "0 1\nend 1\n\n", "end 1\n"] {
+        for given in [
+            "0 2\nend 0\n",
+            "0 2\nend 2\n",
+            "0 2\nend 1\n\n",
+            "0 1\nend 1\n",
+            "end 1\n",
+        ] {
             assert!(difference(b"rules\n", given).is_some(), "{given:?}");
         }
     }
@@ -503,7 +710,7 @@ mod tests {
         let mut run = Run::new(Broken(b"rules\nx\nopen 9 1 0"), CallSet::all());
         let mut out = Vec::new();
         assert!(run.play_all(&mut out).is_err());
-        assert_eq!(out, b"0 1\n? line 2\n");
+        assert_eq!(out, b"0 2\n? line 2\n");
         assert_eq!(run.player.book.today, 2);
     }
 

@@ -31,6 +31,23 @@ const NO_RULES: [&str; 14] = [
     "rules 0", "rules 0", "rules 1", "rules ", "rules ", "rules  0", " rules", "rules\r",
     "rules\t", "rules\0", "Rules", "RULES", "rule", "rules#",
 ];
+/// An empty Month has its places and their fill all the same.
+const NO_MONTHS: [&str; 14] = [
+    "month",
+    "month 0",
+    "month 0",
+    "month 0 32",
+    "month 0 32",
+    "month 0 32 ",
+    "month 0 32 7 7",
+    "month 0  32 7",
+    "month 0 4097 7",
+    "month 1 32 7",
+    "month 32 7",
+    "month 32 32 7",
+    "month -0 32 7",
+    "month 0 32 7\r",
+];
 /// Calls of later editions, which this one does not know.
 const LATER: [&str; 8] = [
     "target 2000 2000 6 0",
@@ -104,6 +121,7 @@ impl<W: Write> Generator<W> {
             (1..=10, _) => self.random.pick(&NO_RULES).to_string(),
             (11..=18, _) => self.random.pick(&LATER).to_string(),
             (19..=22, _) => self.random.pick(&SCRAWLS).to_string(),
+            (23..=30, _) => self.random.pick(&NO_MONTHS).to_string(),
             (_, Some(words)) => self.slip(words),
             _ => return Ok(()),
         };

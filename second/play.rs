@@ -4,7 +4,7 @@ use crate::book::{Book, Refusal, LINE_WORDS};
 use crate::journal::Call;
 
 /// The latest change request in the rules; 0 is the base.
-const EDITION: u64 = 1;
+const EDITION: u64 = 2;
 
 /// A book and the lists that are lent to its calls.
 pub struct Player {
@@ -269,6 +269,25 @@ mod tests {
     }
 
     #[test]
+    fn an_empty_month_is_told_as_a_typed_one() {
+        let start = "enter 0 31 0 3 1000 2\nenter 31 0 1 3 1000 2\nmonth 0 32 8\n\
+            close 100000 100 1152 9\nmonth 0 0 8\nmonth 0 33 8\n";
+        let (eights, zeros) = (" 8".repeat(33), " 0".repeat(32));
+        let told = format!(
+            "0 0 0\n0 1 1\n21{}\n0 1\n  1 0 3 30 0 0\n  kept 1146\n5\n5{eights}\n",
+            &eights[2..]
+        );
+        let paid = format!("0{} 30\n21{}\n", &zeros[2..], &eights[2..]);
+        for month in [
+            "month 0 32 8\n",
+            &format!("month 32 30{} 32 8\n", &zeros[2..]),
+        ] {
+            let journal = format!("{start}{month}month 0 32 8\n");
+            assert_eq!(answers(&journal), format!("{told}{paid}"));
+        }
+    }
+
+    #[test]
     fn rules_answers_the_edition_and_changes_nothing() {
         let mut player = Player::new();
         for line in ["open 9 1 0", "enter 0 1 0 3 1000 9"] {
@@ -278,7 +297,7 @@ mod tests {
         }
         let (before, mut out) = (player.book.clone(), Vec::new());
         assert_eq!(player.play(Call::Rules, &mut out), 0);
-        assert_eq!(out, b"0 1\n");
+        assert_eq!(out, b"0 2\n");
         assert_eq!(player.book, before);
     }
 
@@ -286,7 +305,7 @@ mod tests {
     fn rules_may_stand_before_the_first_open() {
         assert_eq!(
             answers("rules\nenter 0 1 0 3 1000 2\nrules\n"),
-            "0 1\n0 0 0\n0 1\n"
+            "0 2\n0 0 0\n0 2\n"
         );
     }
 

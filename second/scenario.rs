@@ -10,7 +10,7 @@ impl<W: Write> Generator<W> {
     pub fn any_scenario(&mut self) -> io::Result<()> {
         self.readings = self.random.pick(&[5, 20, 40, 60]);
         self.noise = self.random.pick(&[0, 2, 5, 10, 25]);
-        match self.random.below(106) {
+        match self.random.below(126) {
             0..=18 => self.mixed_life(),
             19..=34 => self.stages(),
             35..=46 => self.auctions(),
@@ -22,15 +22,17 @@ impl<W: Write> Generator<W> {
             80..=83 => self.refused_open(),
             84..=88 => self.end_of_calendar(),
             89..=91 => self.crowd(),
-            92 | 93 => self.heavy_crowd(),
-            94 | 95 => self.many_legs(),
-            96 | 97 => self.long_life(),
-            98 | 99 => self.scrawl(),
-            _ => self.jams(),
+            92..=94 => self.heavy_crowd(),
+            95 | 96 => self.many_legs(),
+            97 | 98 => self.long_life(),
+            99 | 100 => self.scrawl(),
+            101..=106 => self.jams(),
+            107..=114 => self.everybody_paid(),
+            _ => self.twins(),
         }
     }
 
-    fn open_any(&mut self) -> io::Result<()> {
+    pub fn open_any(&mut self) -> io::Result<()> {
         let first = self.first_day();
         let terms = u64::from(self.random.percent(65));
         self.open_book(first, terms)
@@ -88,13 +90,13 @@ impl<W: Write> Generator<W> {
         Ok(())
     }
 
-    fn close_day(&mut self) -> io::Result<()> {
+    pub fn close_day(&mut self) -> io::Result<()> {
         let mut arguments = self.close_arguments();
         arguments[2] = arguments[2].max(1_152);
         self.call("close", &arguments).map(|_| ())
     }
 
-    fn close_days(&mut self, days: u64) -> io::Result<()> {
+    pub fn close_days(&mut self, days: u64) -> io::Result<()> {
         for _ in 0..days {
             self.close_day()?;
         }
@@ -176,6 +178,10 @@ impl<W: Write> Generator<W> {
                 for _ in 0..self.random.between(0, 40) {
                     self.plausible("offer")?;
                 }
+            }
+            // A Month leaves the offers alone.
+            if self.random.percent(15) {
+                self.month_in_full()?;
             }
             self.close_day()?;
         }
@@ -332,7 +338,7 @@ impl<W: Write> Generator<W> {
     }
 
     /// A refused Open, by any of its numbers.
-    fn open_wrongly(&mut self) -> io::Result<()> {
+    pub fn open_wrongly(&mut self) -> io::Result<()> {
         let day = self.first_day();
         let weekend = day / 7 * 7 + self.random.below(2);
         let refused: [&[u64]; 9] = [
@@ -526,27 +532,13 @@ impl<W: Write> Generator<W> {
         for _ in 0..self.random.between(34, 37) {
             self.call("close", &[150_000, 100, 1_152, 0])?;
         }
-        if self.random.percent(70) {
+        if self.random.percent(85) {
             self.month_in_full()?;
         }
         for _ in 0..2 {
             self.plausible("month")?;
         }
         Ok(())
-    }
-
-    /// A Month in which every debtor pays all, but for a cent at times.
-    fn month_in_full(&mut self) -> io::Result<()> {
-        let unpaid = self.random.below(2);
-        let owed = self
-            .player
-            .book
-            .accounts
-            .map(|account| account.min(0).unsigned_abs());
-        let mut arguments = vec![MEMBERS as u64];
-        arguments.extend(owed.map(|owed| owed.saturating_sub(unpaid)));
-        arguments.extend([MEMBERS as u64, u64::MAX]);
-        self.call("month", &arguments).map(|_| ())
     }
 
     /// Hundreds of Closes with Months, and obligations all along the way.

@@ -7,7 +7,8 @@ ghost use Rattle.book.specs.Book.{Valid};
 ghost use Rattle.book.specs.Month.{month, monthWords};
 
 impl Book {
-    // Collects from the members that owe and pays out to those that claim; the accounts are then zero.
+    // Collects from the members that owe and pays out to those that claim; the accounts are then zero. If the list of
+    // collected amounts is empty, each member paid what it owes.
     pub fn month(mut self, collected: &[u64], payouts: &mut [u64]) -> Done
         requires { ⌜ Valid self ⌝ }
         ensures { λ r. ⌜ r ≡ month self (now (collected .entry)) (length (now (payouts .entry))) ⌝ }

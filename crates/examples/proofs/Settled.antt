@@ -1,9 +1,9 @@
 -- The settled examples of docs/RULES.md hold of the definitions.
-use Prim.Native.Nat.{ℕ, _-_, _≤_}
+use Prim.Native.Nat.{ℕ, zero, suc, _-_, _≤_, _<_}
 use native.Mathlib.Omega.{arith}
 use mathlib.Core.Path.{_≡_, refl, ap, ap₂, _∙_}
 use mathlib.Core.Bool.{true}
-use lib.ListN.{getD, replicate}
+use lib.ListN.{getD, take, replicate}
 use mathlib.Core.List.{List, [], _∷_, _++_}
 use Rattle.basics.specs.Lists.{total, tableFrom, countBelow, Every}
 use Rattle.basics.specs.Lists.Every.{nobody, also}
@@ -44,8 +44,8 @@ use Rattle.book.specs.Instructing.{doneRefused}
 use Rattle.refusals.proofs.Refusals.{by-number}
 use Rattle.journal.specs.Calls.{Call}
 use Rattle.journal.specs.Played.{outcome, eventOf, begun}
-use Rattle.examples.specs.Played.{opening, bookAfter, eventsOn, numbersOf, accepted, answersOf, shown, sale, closeAt, daysPass, toBuyIn, compensationPlayed, capOffers, capPlayed, matchPlayed, deliversPlayed, auctionOffers, auctionPlayed, collecting, monthPlayed, answerWithLines, answersWithLines, twoSales, againLent, reprintPlayed}
-use Rattle.examples.specs.Table.{table, boughtFrom, nthDay, dayNumber, oneOfThree, threeCash, compensatedFor, boughtInTwo, twoPenalties}
+use Rattle.examples.specs.Played.{opening, bookAfter, eventsOn, numbersOf, accepted, answersOf, shown, sale, closeAt, daysPass, toBuyIn, compensationPlayed, capOffers, capPlayed, matchPlayed, deliversPlayed, auctionOffers, auctionPlayed, collecting, everybodyPaid, monthPlayed, answerWithLines, answersWithLines, twoSales, againLent, reprintPlayed, monthsPlayed}
+use Rattle.examples.specs.Table.{table, boughtFrom, nthDay, dayNumber, oneOfThree, threeCash, compensatedFor, boughtInTwo, twoPenalties, paidInFull}
 
 -- the n-th clearing day is found by counting the clearing days up to it
 nth : (cs : List Day) (j e n : ℕ) → j ≤ e → e ≤ lastDay → clearing cs (day e) ≡ true → clearingWithin cs j (e - j) ≡ n →
@@ -164,7 +164,7 @@ unfolding rules
 example-7 = refl
 
 -- X8, Settled examples: the first of its two Months
-example-8 : monthPlayed twoSales ≡ accepted 5 ++ 0 ∷ 67 ∷ 33 ∷ 0 ∷ []
+example-8 : monthPlayed twoSales (collecting 100) ≡ accepted 5 ++ 0 ∷ 67 ∷ 33 ∷ 0 ∷ []
 unfolding rules
 example-8 = refl
 
@@ -179,7 +179,7 @@ abbrev pub closedOnce : Book
 closedOnce = bookAfter (begun opening .book) (twoSales ++ closeAt 100000 10 ∷ [])
 
 -- a Month answers its number alone
-month-alone : (b : Book) → answerWithLines (eventOf b collecting) ≡ outcome b collecting .answer ∷ []
+month-alone : (b : Book) → answerWithLines (eventOf b (collecting 100)) ≡ outcome b (collecting 100) .answer ∷ []
 unfolding flat linesRead tableFrom
 month-alone b = refl
 
@@ -194,10 +194,10 @@ unfolding rules
 reprint-lines = refl
 
 -- the Month is accepted, and this is the book after it
-accepted-month : outcome closedOnce collecting .answer ≡ 0
+accepted-month : outcome closedOnce (collecting 100) .answer ≡ 0
 accepted-month = ap (λ (l : List ℕ). getD l 5 0) example-8
 
-after-month : outcome closedOnce collecting .book ≡ monthBook closedOnce
+after-month : outcome closedOnce (collecting 100) .book ≡ monthBook closedOnce
 after-month = month-leaves closedOnce _ _ accepted-month
 
 pub example-11 : reprintPlayed ≡ accepted 4 ++ twoPenalties ++ (0 ∷ []) ++ twoPenalties
@@ -213,8 +213,20 @@ again-there : countAndCents (monthBook closedOnce) ≡ 2 ∷ 200 ∷ 100 ∷ []
 unfolding rules
 again-there = refl
 
-pub example-11-words : countAndCents (outcome closedOnce collecting .book) ≡ 2 ∷ 200 ∷ 100 ∷ []
+pub example-11-words : countAndCents (outcome closedOnce (collecting 100) .book) ≡ 2 ∷ 200 ∷ 100 ∷ []
 example-11-words = ap countAndCents after-month ∙ again-there
+
+-- a place among those that are shown of a list
+pub taken-place : (n : ℕ) (ws : List ℕ) (m : ℕ) → m < n → getD (take n ws ++ []) m 0 ≡ getD ws m 0
+taken-place zero ws m h = absurd (omega arith)
+taken-place (suc n) [] m h = refl
+taken-place (suc n) (w ∷ ws) zero h = refl
+taken-place (suc n) (w ∷ ws) (suc m) h = taken-place n ws m (omega arith)
+
+-- X12, Settled examples: the Month that collects all that is owed, and the Month for which everybody paid
+pub example-12 : (monthPlayed twoSales (collecting 300) ≡ paidInFull) × (monthPlayed twoSales everybodyPaid ≡ paidInFull)
+unfolding rules
+example-12 = (refl, refl)
 
 -- X10, Settled examples: supplier, quantity and cents in the words of two lines of a Close, the second and the third
 abbrev pub twoBought : List ℕ → List ℕ
@@ -237,4 +249,4 @@ example-10-words =
 pub settled : Every (λ r. r .computed ≡ r .settled) table
 unfolding rules
 settled =
-    also refl (also refl (also refl (also refl (also refl (also refl (also refl (also refl (also refl (also example-9 (also refl (also refl (also refl (also refl (also (example-3 .0) (also (example-3 .1) (also example-4 (also example-5 (also example-6 (also example-7 (also example-8 (also refl (also example-10 (also example-11 nobody)))))))))))))))))))))))
+    also refl (also refl (also refl (also refl (also refl (also refl (also refl (also refl (also refl (also example-9 (also refl (also refl (also refl (also refl (also (example-3 .0) (also (example-3 .1) (also example-4 (also example-5 (also example-6 (also example-7 (also example-8 (also refl (also example-10 (also example-11 (also (ap₂ _++_ (example-12 .0) (example-12 .1)) nobody))))))))))))))))))))))))

@@ -82,9 +82,13 @@ daysPass n = replicate n (closeAt 100000 0)
 abbrev pub toBuyIn : ℕ → List Call
 toBuyIn gracePrice = sale 0 1 10 1000000 ++ daysPass 10 ++ closeAt gracePrice 0 ∷ []
 
--- M3, Month: a Month that collects 100 cents from member 3
-abbrev pub collecting : Call
-collecting = month (0 ∷ 0 ∷ 0 ∷ 100 ∷ replicate 28 0) (replicate 32 7)
+-- M3, Month: a Month that collects these cents from member 3
+abbrev pub collecting : ℕ → Call
+collecting cents = month (0 ∷ 0 ∷ 0 ∷ cents ∷ replicate 28 0) (replicate 32 7)
+
+-- M12, Month: a Month with an empty list of collected amounts
+abbrev pub everybodyPaid : Call
+everybodyPaid = month [] (replicate 32 7)
 
 -- ---- the examples
 -- X1 and X2, Settled examples: member 0 sells q units for 1,000 cents and does not deliver them on day 2. This is what the
@@ -114,10 +118,10 @@ matchPlayed a above most = shown answersOf (enter 0 1 0 10 a (day 2) ∷ []) (re
 abbrev pub deliversPlayed : List ℕ
 deliversPlayed = shown answersOf (sale 0 1 3 1000) (deliver 0 1 ∷ deliver 0 1 ∷ deliver 0 1 ∷ [])
 
--- X8, Settled examples: at a price of 100,000 and a rate of 10, member 3 owes one cent for each unit that it sold and did
--- not deliver
-abbrev pub monthPlayed : List Call → List ℕ
-monthPlayed sales = shown payoutsOf (sales ++ closeAt 100000 10 ∷ []) (collecting ∷ [])
+-- X8 and X12, Settled examples: at a price of 100,000 and a rate of 10, member 3 owes one cent for each unit that it
+-- sold and did not deliver. This is what a Month then pays.
+abbrev pub monthPlayed : List Call → Call → List ℕ
+monthPlayed sales paid = shown payoutsOf (sales ++ closeAt 100000 10 ∷ []) (paid ∷ [])
 
 -- X10, Settled examples: there are three offers
 abbrev pub auctionOffers : List Call
@@ -137,4 +141,9 @@ againLent = again (replicate 1152 0)
 
 -- X11, Settled examples: the Close of that day, a Month, and an Again
 abbrev pub reprintPlayed : List ℕ
-reprintPlayed = shown answersWithLines twoSales (closeAt 100000 10 ∷ collecting ∷ againLent ∷ [])
+reprintPlayed = shown answersWithLines twoSales (closeAt 100000 10 ∷ collecting 100 ∷ againLent ∷ [])
+
+-- X12, Settled examples: two Months side by side, one that collects all that member 3 owes and one for which everybody
+-- paid
+abbrev pub monthsPlayed : List ℕ
+monthsPlayed = monthPlayed twoSales (collecting 300) ++ monthPlayed twoSales everybodyPaid

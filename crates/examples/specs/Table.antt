@@ -15,7 +15,7 @@ use Rattle.offers.specs.declared.Offer.{Offer}
 use Rattle.offers.specs.declared.Given.{Given}
 use Rattle.offers.specs.Rank.{ranked}
 use Rattle.offers.specs.BuyIn.{given}
-use Rattle.examples.specs.Played.{accepted, sale, penaltyPlayed, compensationPlayed, capPlayed, matchPlayed, deliversPlayed, monthPlayed, auctionPlayed, reprintPlayed}
+use Rattle.examples.specs.Played.{accepted, sale, penaltyPlayed, compensationPlayed, capPlayed, matchPlayed, deliversPlayed, twoSales, collecting, monthPlayed, auctionPlayed, reprintPlayed, monthsPlayed}
 
 -- a row of the table: the number of the example, what the definitions give, and what is settled
 pub record Row : Type 0 where
@@ -88,7 +88,12 @@ boughtInTwo =
 abbrev pub twoPenalties : List ℕ
 twoPenalties = (0 ∷ 2 ∷ []) ++ (1 ∷ 0 ∷ 200 ∷ 200 ∷ 0 ∷ 0 ∷ []) ++ 1 ∷ 1 ∷ 100 ∷ 100 ∷ 0 ∷ 0 ∷ []
 
--- X1 to X11, Settled examples: first by the definitions that each example speaks of, then as calls after an Open
+-- M12 and M13, Month: what each of the two journals of X12 shows: five accepted calls, and a Month that pays 200 and
+-- 100 cents
+abbrev pub paidInFull : List ℕ
+paidInFull = accepted 5 ++ 0 ∷ 200 ∷ 100 ∷ 0 ∷ []
+
+-- X1 to X12, Settled examples: first by the definitions that each example speaks of, then as calls after an Open
 abbrev pub table : List Row
 table =
     record { item = 1; computed = penalty 1000 100000 10 ∷ []; settled = 1000 ∷ [] }
@@ -145,12 +150,12 @@ table =
     ∷ record { item = 7; computed = deliversPlayed; settled = accepted 2 ++ threeCash }
     ∷ record {
       item = 8;
-      computed = monthPlayed (sale 3 0 200 1000 ++ sale 3 1 100 1000);
+      computed = monthPlayed twoSales (collecting 100);
       settled = accepted 5 ++ 0 ∷ 67 ∷ 33 ∷ 0 ∷ [];
     }
     ∷ record {
       item = 8;
-      computed = monthPlayed (sale 3 0 100 1000 ++ sale 3 1 100 1000 ++ sale 3 2 100 1000);
+      computed = monthPlayed (sale 3 0 100 1000 ++ sale 3 1 100 1000 ++ sale 3 2 100 1000) (collecting 100);
       settled = accepted 7 ++ 0 ∷ 34 ∷ 33 ∷ 33 ∷ [];
     }
     ∷ record {
@@ -163,4 +168,5 @@ table =
       computed = reprintPlayed;
       settled = accepted 4 ++ twoPenalties ++ (0 ∷ []) ++ twoPenalties;
     }
+    ∷ record { item = 12; computed = monthsPlayed; settled = paidInFull ++ paidInFull }
     ∷ []

@@ -191,7 +191,8 @@ fn main() {
         + played::tolerance()
         + played::deliveries()
         + played::auction()
-        + played::reprint();
+        + played::reprint()
+        + played::everybody_paid();
     io::print_decimal(STDOUT_FILENO, differ + played_differ);
     io::write_all(STDOUT_FILENO, b" answers differ from the settled ones\n");
 }

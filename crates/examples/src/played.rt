@@ -166,3 +166,20 @@ pub fn reprint() -> u64
     let shown = after.again(&mut lines);
     compared(11, shown.count as u64, 2) + compared(11, lines[3], 200) + compared(11, lines[9], 100)
 }
+
+// Example 12: on the same book, a Month that collects all that member 3 owes, and a Month for which everybody paid.
+pub fn everybody_paid() -> u64
+    ensures { λ r. ⌜ r ≡ 0 ⌝ }
+{
+    let mut collected = [0u64; 32];
+    collected[3] = 300;
+    let mut typed = [7u64; 32];
+    closed_once().month(&collected, &mut typed);
+    let none = [0u64; 0];
+    let mut empty = [7u64; 32];
+    closed_once().month(&none, &mut empty);
+    compared(12, typed[0], 200)
+        + compared(12, empty[0], 200)
+        + compared(12, typed[1], 100)
+        + compared(12, empty[1], 100)
+}

@@ -18,7 +18,7 @@ use borrow.Fn.Run.{Over}
 use borrow.Fn.Plain.{Known}
 use Rattle.basics.specs.Lists.{table}
 use Rattle.calendar.specs.declared.Day.{Day}
-use Rattle.netting.specs.Accounts.{balance}
+use Rattle.netting.specs.Accounts.{debts, balance}
 use Rattle.book.specs.declared.Book.{Book}
 use Rattle.book.specs.declared.Opened.{Opened}
 use Rattle.book.specs.declared.Entered.{Entered}
@@ -29,11 +29,12 @@ use Rattle.book.specs.declared.Closed.{Closed}
 use Rattle.book.specs.declared.Shown.{Shown}
 use Rattle.book.specs.declared.Balance.{Balance}
 use Rattle.book.specs.declared.Looked.{Looked}
+use Rattle.book.specs.Book.{Valid}
 use Rattle.book.proofs.Book as code
 use Rattle.journal.specs.Calls.{Opening, Call, Run}
 use Rattle.journal.specs.Played.{Outcome, ofDone, ofEntered, ofCancelled, ofDelivered, ofClosed, ofPaid, after, played, callsOf}
 use Rattle.journal.specs.Facts.{Instructed}
-use Rattle.journal.specs.Sums.{instructedIn}
+use Rattle.journal.specs.Sums.{instructedIn, debtsIn}
 use Rattle.journal.specs.Promise.{StatusShows, AccountShows, LookShows, AgainShows, EveryMonth, EveryBuyIn, EveryCapPrice}
 
 -- J1, Whole journals: a call on a book with any arguments and any lent lists, and what came of it. The result, and the lent
@@ -95,6 +96,17 @@ pub data LookCalled (b : Book) (m : ℕ) (t : Looked) : Type 0 where
 pub data AgainCalled (b : Book) : List ℕ → Closed → List ℕ → Type 0 where
   called : (κs : Lfts 1) (lines : RefT (List ℕ)) (t : Closed) (x : _) → code.again.Reads.Learnt κs (b, (lines, tt)) t x → AgainCalled b (now lines) t (now (x .1 .0))
 
+-- M13, Month: two calls end in the same answer number, the same book and the same payouts
+pub record EndAlike (x y : Outcome) : Type 0 where
+  pub answer : x .answer ≡ y .answer
+  pub book : x .book ≡ y .book
+  pub payouts : x .words ≡ y .words
+
+-- M13, Month: a Month that is given these amounts and one that is given the empty list end alike, on this book and with
+-- equal places for payouts, whether they are accepted or refused
+abbrev pub SameAsEmpty : Book → List ℕ → Type 0
+SameAsEmpty b amounts = (payouts : List ℕ) (typed empty : Outcome) → Called b (Call.month amounts payouts) typed → Called b (Call.month [] payouts) empty → EndAlike typed empty
+
 -- G3, Promises: what is promised of a run
 pub record Promise (s : Run) : Type 1 where
   -- J3: each call, and the Open, is answered as the rules give it, with every word of its lent lists: all of this, and the
@@ -114,6 +126,8 @@ pub record Promise (s : Run) : Type 1 where
   pub again : (ws us : List ℕ) (t : Closed) → AgainCalled (s .book) ws t us → AgainShows (s .past) ws us t
   -- J13 and J14: each accepted Month pays out just what it collected, and each creditor gets its share
   pub months : EveryMonth (s .past)
+  -- J17: after the list, a Month that is given what each member owes by the events ends as an empty one does
+  pub paid-in-full : SameAsEmpty (s .book) (debtsIn (s .past))
   -- C7 and C8: at each accepted Close the offers for each obligation in its buy-in days give in their turns
   pub buy-ins : EveryBuyIn (s .opening) (s .past)
   -- B9: every obligation whose age is above grace has had its Close at age = grace, which left a price for the cap
@@ -147,6 +161,8 @@ pub record Demand3 (M : Type 1) : Type 2 where
   pub each : (o : Opening) (cs : List Call) → Ran (played o cs)
   -- G1: an Open may come first, with any arguments and any lent list, since its contract requires nothing
   pub may-open : (first : Day) (κs : Lfts 1) (closed : RefT (List ℕ)) (terms : ℕ) → code.«open».Reads.Asked κs (first, (closed, (terms, tt)))
+  -- M13: on every book that a call takes, a Month that is given what each account owes ends as an empty one does
+  pub owed-or-empty : (b : Book) → Valid b → SameAsEmpty b (debts (b .ledger .accounts))
   -- the code of each function
   pub open-code : Code M code.«open».Statement.statement 1 code.«open».Kinds.ps code.«open».Kinds.r code.«open».Symbol.routine code.«open».Reads.Asked code.«open».Reads.Learnt
   pub enter-code : Code M code.enter.Statement.statement 0 code.enter.Kinds.ps code.enter.Kinds.r code.enter.Symbol.routine code.enter.Reads.Asked code.enter.Reads.Learnt

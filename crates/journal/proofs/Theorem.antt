@@ -1,10 +1,12 @@
 -- The promise on whole journals (docs/RULES.md, chapter Promises, G3), proved: `demand-3` at the end.
 use Prim.Native.Nat.{ℕ}
-use mathlib.Core.Path.{_≡_, refl, ap, ap₂, subst⁻¹}
+use mathlib.Core.Path.{_≡_, refl, sym, ap, ap₂, subst⁻¹, _∙_}
 use mathlib.Core.List.{List, [], _∷_}
 use lib.ListN.{length}
 use denote.Ref.{RefT, now}
+use Rattle.netting.specs.Accounts.{debts}
 use Rattle.book.specs.declared.Book.{Book}
+use Rattle.book.specs.declared.Done.{Done}
 use Rattle.book.specs as rules
 use Rattle.book.specs.Book.{Valid}
 use Rattle.book.proofs as laws
@@ -12,12 +14,13 @@ use Rattle.book.proofs.Book as code
 use Rattle.journal.specs.Calls.{Opening, Call, Run}
 use Rattle.journal.specs.Played.{Outcome, ofDone, ofEntered, ofCancelled, ofDelivered, ofClosed, outcome, after, played}
 use Rattle.journal.proofs.Model.{Known, begun-known, step-known, played-known}
+use Rattle.journal.proofs.Months.{debts-agree}
 use Rattle.journal.proofs.CapPrices.{known-capped}
 use Rattle.journal.proofs.BuyIns.{known-bought}
 use Rattle.journal.proofs.Showing.{status-shows, account-shows, all-shown, look-shows, status-learnt, account-learnt, look-learnt}
 use Rattle.journal.proofs.Recalling.{known-recalls}
 use Rattle.journal.proofs.Reprints.{again-shows, again-learnt}
-use Rattle.journal.proofs.Demand3.{Called, Ran, May, Promise, Demand3}
+use Rattle.journal.proofs.Demand3.{Called, Ran, May, SameAsEmpty, Promise, Demand3}
 
 -- ---- by its contract, a call answers what the rules give
 called-is : {b : Book} {c : Call} {r : Outcome} → Called b c r → r ≡ outcome b c
@@ -30,6 +33,18 @@ called-is (Called.closed κs price rate lines r x h) = ap₂ ofClosed (h .0) (h 
 called-is (Called.repeated κs lines r x h) = ap₂ ofClosed (h .0) (h .1 .0)
 called-is (Called.settled κs collected payouts r x h) =
     λ i. record { answer = h .0 i .answer; results = []; words = h .1 .0 i; kept = h .1 .1 .1 i; book = h .0 i .book }
+
+-- a Month that is given what each account owes ends as an empty one does
+same-as-empty : (b : Book) → Valid b → SameAsEmpty b (debts (b .ledger .accounts))
+same-as-empty b v payouts typed empty h k =
+    let x = called-is h in
+    let y = called-is k in
+    let done = laws.Paid.month-typed b v (length payouts) in
+    record {
+      answer = ap (λ (r : Outcome). r .answer) x ∙ ap (λ (d : Done). d .answer) done ∙ sym (ap (λ (r : Outcome). r .answer) y);
+      book = ap (λ (r : Outcome). r .book) x ∙ ap (λ (d : Done). d .book) done ∙ sym (ap (λ (r : Outcome). r .book) y);
+      payouts = ap (λ (r : Outcome). r .words) x ∙ laws.Paid.words-typed b v payouts ∙ sym (ap (λ (r : Outcome). r .words) y);
+    }
 
 pub known : {s : Run} → Ran s → Known s
 known (Ran.opened first κs ds terms r x h) =
@@ -63,6 +78,7 @@ promised s ran =
       look = λ m h t c. look-shows (s .opening) (s .book) (s .past) g m h t (look-learnt c);
       again = λ ws us t c. again-shows (s .book) (s .past) (known-recalls s k) ws us t (again-learnt c);
       months = k .months;
+      paid-in-full = subst⁻¹ (SameAsEmpty (s .book)) (debts-agree (s .opening) (s .book) (s .past) g) (same-as-empty (s .book) v);
       buy-ins = known-bought s k;
       cap-prices = known-capped s k;
       may = may (s .book) v;
@@ -106,6 +122,7 @@ demand-3 = record {
   whole = promised;
   each = ran;
   may-open = λ first κs closed terms. tt;
+  owed-or-empty = same-as-empty;
   open-code = record { met = code.«open».Met.met; gives = λ w γ k same. code.«open».Reads.known w γ k code.«open».Symbol.routine same (code.«open».Met.met (w .𝓤) (w .H) (w .𝓜) (w .𝓖) (w .𝓡)) };
   enter-code = record { met = code.enter.Met.met; gives = λ w γ k same. code.enter.Reads.known w γ k code.enter.Symbol.routine same (code.enter.Met.met (w .𝓤) (w .H) (w .𝓜) (w .𝓖) (w .𝓡)) };
   withdraw-code = record { met = code.withdraw.Met.met; gives = λ w γ k same. code.withdraw.Reads.known w γ k code.withdraw.Symbol.routine same (code.withdraw.Met.met (w .𝓤) (w .H) (w .𝓜) (w .𝓖) (w .𝓡)) };

@@ -83,7 +83,7 @@ priceOf (some d) = d .price
 -- ---- the facts of an event
 -- What an event says: what it does to the legs; which quantity of an obligation it moves to a part, beside what its lines
 -- say; whether it is member m's wish to cancel obligation n; the offers that it enters; how it ended the day if it is a
--- Close; and what it collected if it is a Month.
+-- Close; and the list of collected amounts that it was given if it is a Month.
 pub record Facts : Type 0 where
   pub legs : LegChange
   pub moves : Part → ℕ → ℕ
@@ -116,13 +116,13 @@ onlyOffers xs = record { legs = neither; moves = λ k n. 0; wishes = λ n m. fal
 abbrev pub onlyEnds : Ended → Facts
 onlyEnds d = record { legs = neither; moves = λ k n. 0; wishes = λ n m. false; offers = []; ends = some d; collects = none }
 
--- J13, Whole journals: it collects amounts
+-- J13, Whole journals: it is given a list of collected amounts, which may be empty
 abbrev pub onlyCollects : List ℕ → Facts
 onlyCollects cs = record { legs = neither; moves = λ k n. 0; wishes = λ n m. false; offers = []; ends = none; collects = some cs }
 
 -- What an accepted call says, by its results and by its list as it ended. J6, Whole journals: a Deliver delivers its
 -- quantity. J9: a Cancel cancels what it returned. N5, Again: an Again changes nothing, and its lines are not reported once
--- more. J13: a Month collects the amounts that it was lent.
+-- more. J13: a Month is given the collected amounts as they were lent.
 abbrev pub factsOf : Call → List ℕ → List ℕ → Facts
 factsOf (Call.enter member other side q a j) rs ws = onlyLegs (enters (getD rs 0 0) (getD rs 1 0) (newLeg member other side q a j))
 factsOf (Call.withdraw leg member) rs ws = onlyLegs (withdraws leg)

@@ -25,7 +25,7 @@ use Rattle.book.specs.declared.Balance.{Balance}
 use Rattle.book.specs.declared.Looked.{Looked}
 use Rattle.journal.specs.Calls.{Opening, Event}
 use Rattle.journal.specs.Facts.{Instructed, partOfKind, isPart, isEnd, reported, facts}
-use Rattle.journal.specs.Sums.{termsIn, todayIn, instructedIn, partIn, outstandingIn, ageIn, accountIn, claimsIn, lastClosedIn}
+use Rattle.journal.specs.Sums.{termsIn, todayIn, instructedIn, partIn, outstandingIn, ageIn, accountIn, claimsIn, collectedIn, lastClosedIn}
 use Rattle.journal.specs.History.{latestClose, gracePriceIn, graceClosedIn, offersIn}
 
 -- J10 and J15, Whole journals: what a Status after the list shows of an obligation of the list. It is accepted and shows
@@ -88,11 +88,14 @@ pub record Paid (c whole g payout : ℕ) : Type 0 where
   pub proportional : (payout ≡ c * g / whole) ⊎ (payout ≡ c * g / whole + 1)
   pub most : payout ≤ g
 
--- J13 and J14, Whole journals: an accepted Month that collected cs. The claims are those of the events before it, and the
--- payouts are read as it ended.
-pub record MonthPays (cs payouts : List ℕ) (earlier : List Event) : Type 0 where
-  pub all : sum payouts ≡ sum cs
-  pub each : (m : ℕ) → m < 32 → 0 < getD (claimsIn earlier) m 0 → Paid (sum cs) (sum (claimsIn earlier)) (getD (claimsIn earlier) m 0) (getD payouts m 0)
+-- J13 and J14, Whole journals: an accepted Month that was given this list of collected amounts. What it collected and
+-- the claims follow from the list and the events before it, and the payouts are read as it ended. If the list was
+-- empty, every member got its claim.
+pub record MonthPays (amounts payouts : List ℕ) (earlier : List Event) : Type 0 where
+  pub all : sum payouts ≡ sum (collectedIn amounts earlier)
+  pub each : (m : ℕ) → m < 32 → 0 < getD (claimsIn earlier) m 0 →
+      Paid (sum (collectedIn amounts earlier)) (sum (claimsIn earlier)) (getD (claimsIn earlier) m 0) (getD payouts m 0)
+  pub in-full : amounts ≡ [] → payouts ≡ claimsIn earlier
 
 -- the statement that P holds of each event and of those before it
 abbrev pub EachEvent : (Event → List Event → Type 0) → List Event → Type 0
@@ -101,7 +104,7 @@ EachEvent P (e ∷ es) = P e es × EachEvent P es
 
 -- J13 and J14, Whole journals: every accepted Month of a journal
 abbrev pub EveryMonth : List Event → Type 0
-EveryMonth es = EachEvent (λ e earlier. (cs : List ℕ) → facts e .collects ≡ some cs → MonthPays cs (e .words) earlier) es
+EveryMonth es = EachEvent (λ e earlier. (amounts : List ℕ) → facts e .collects ≡ some amounts → MonthPays amounts (e .words) earlier) es
 
 -- B9, Buy-in: the cap of an obligation has its price: a Close was accepted at age = grace, and its price is at least 1
 pub record HasCapPrice (o : Opening) (es : List Event) (n : ℕ) : Type 0 where

@@ -13,13 +13,14 @@ use Rattle.calendar.specs.declared.NextDay.{NextDay}
 use Rattle.calendar.specs.declared.NextDay.the-variants.{At, Never}
 use Rattle.calendar.specs.Closed.{day, closedDays, listed}
 use Rattle.calendar.specs.Days.{ageAt, nextAfter}
-use Rattle.netting.specs.Accounts.{claim}
+use Rattle.netting.specs.Accounts.{claim, owed}
 use Rattle.ledger.specs.declared.Setup.{Setup}
 use Rattle.ledger.specs.declared.Terms.{Terms}
 use Rattle.ledger.specs.declared.Part.{Part}
 use Rattle.ledger.specs.Parts.{everyPart}
 use Rattle.closing.specs.declared.Line.{Line}
 use Rattle.closing.specs.Lines.{penaltyKind}
+use Rattle.payments.specs.Month.{amountsPaid}
 use Rattle.refusals.specs.Refusals.{answer, outcome}
 use Rattle.book.specs.Open.{openRefusals, termsOf}
 use Rattle.journal.specs.Calls.{Opening, Event}
@@ -93,7 +94,7 @@ unfoldable pub penaltiesOf : ℕ → (ℕ → Option Instructed) → List Line �
 penaltiesOf m instructed [] = pos 0
 penaltiesOf m instructed (l ∷ ls) = pick (eqb (l .kind) penaltyKind) (creditOf m (l .cents) (instructed (l .obligation))) (pos 0) +ℤ penaltiesOf m instructed ls
 
--- whether an event that collects this is a Month
+-- whether an event that was given this list of collected amounts, or none, is a Month
 abbrev pub isMonth : Option (List ℕ) → Bool
 isMonth none = false
 isMonth (some cs) = true
@@ -107,6 +108,15 @@ accountIn m (e ∷ es) = pick (isMonth (facts e .collects)) (pos 0) (accountIn m
 -- M4 and J13, Month: the claims after these events, in the order of the members
 abbrev pub claimsIn : List Event → List ℕ
 claimsIn es = table 32 (λ m. claim (accountIn m es))
+
+-- M4 and J13, Month: what each member owes after these events, in the order of the members
+abbrev pub debtsIn : List Event → List ℕ
+debtsIn es = table 32 (λ m. owed (accountIn m es))
+
+-- J13, Whole journals: what a Month after these events collects if it is given these amounts. An empty list means that
+-- each member pays what it owes.
+abbrev pub collectedIn : List ℕ → List Event → List ℕ
+collectedIn amounts es = amountsPaid (debtsIn es) amounts
 
 -- ---- the last day
 -- B3, Buy-in: whether today is the last day of what was instructed, on which its age is last

@@ -10,35 +10,35 @@ use lib.ListN.{length, getD, length-map}
 use lib.Seq.{ext-getD}
 use Rattle.basics.proofs.Sums.{sum-most}
 use Rattle.basics.specs.Lists.{total, sum}
-use Rattle.netting.specs.Accounts.{memberCount, claim, owed, claims, balance, mostAccount, Bounded}
+use Rattle.netting.specs.Accounts.{memberCount, claim, owed, claims, debts, balance, mostAccount, Bounded}
 use Rattle.netting.proofs.Signed.{claim-most}
 
 -- the balance plus the sum owed is the sum claimed
-owed-back : (a : List ℤ) → balance a +ℤ pos (sum (map owed a)) ≡ pos (sum (claims a))
+owed-back : (a : List ℤ) → balance a +ℤ pos (sum (debts a)) ≡ pos (sum (claims a))
 unfolding balance total
 owed-back [] = refl
 owed-back (pos n ∷ a) =
-    ap (λ (x : ℕ). (pos n +ℤ balance a) +ℤ pos x) (zero-add (sum (map owed a)))
-    ∙ +ℤ-assoc (pos n) (balance a) (pos (sum (map owed a)))
+    ap (λ (x : ℕ). (pos n +ℤ balance a) +ℤ pos x) (zero-add (sum (debts a)))
+    ∙ +ℤ-assoc (pos n) (balance a) (pos (sum (debts a)))
     ∙ ap (λ (z : ℤ). pos n +ℤ z) (owed-back a)
 owed-back (negsuc n ∷ a) =
-    ap (λ (z : ℤ). z +ℤ pos (suc n + sum (map owed a))) (+ℤ-comm (negsuc n) (balance a))
-    ∙ +ℤ-assoc (balance a) (negsuc n) (pos (suc n + sum (map owed a)))
+    ap (λ (z : ℤ). z +ℤ pos (suc n + sum (debts a))) (+ℤ-comm (negsuc n) (balance a))
+    ∙ +ℤ-assoc (balance a) (negsuc n) (pos (suc n + sum (debts a)))
     ∙ ap (λ (z : ℤ). balance a +ℤ z)
-    (sym (+ℤ-assoc (negsuc n) (pos (suc n)) (pos (sum (map owed a))))
-    ∙ ap (λ (z : ℤ). z +ℤ pos (sum (map owed a))) (+ℤ-invl (pos (suc n)))
-    ∙ +ℤ-idl (pos (sum (map owed a))))
+    (sym (+ℤ-assoc (negsuc n) (pos (suc n)) (pos (sum (debts a))))
+    ∙ ap (λ (z : ℤ). z +ℤ pos (sum (debts a))) (+ℤ-invl (pos (suc n)))
+    ∙ +ℤ-idl (pos (sum (debts a))))
     ∙ owed-back a
     ∙ ap pos (sym (zero-add (sum (claims a))))
 
 -- where the balance is zero, the sum owed is the sum claimed
-pub owed-claimed : (a : List ℤ) → balance a ≡ pos 0 → sum (map owed a) ≡ sum (claims a)
+pub owed-claimed : (a : List ℤ) → balance a ≡ pos 0 → sum (debts a) ≡ sum (claims a)
 owed-claimed a h =
     ap natAbs
-    (sym (+ℤ-idl (pos (sum (map owed a)))) ∙ ap (λ (z : ℤ). z +ℤ pos (sum (map owed a))) (sym h) ∙ owed-back a)
+    (sym (+ℤ-idl (pos (sum (debts a)))) ∙ ap (λ (z : ℤ). z +ℤ pos (sum (debts a))) (sym h) ∙ owed-back a)
 
 within-owed : (a : List ℤ) (cs : List ℕ) → ((m : ℕ) → m < length cs → getD cs m 0 ≤ owed (getD a m (pos 0))) →
-    sum cs ≤ sum (map owed a)
+    sum cs ≤ sum (debts a)
 unfolding total
 within-owed a [] h = omega arith
 within-owed [] (c ∷ cs) h =
@@ -52,15 +52,27 @@ pub collected-covered : (a : List ℤ) (cs : List ℕ) → balance a ≡ pos 0 �
     ((m : ℕ) → m < length cs → getD cs m 0 ≤ owed (getD a m (pos 0))) → sum cs ≤ sum (claims a)
 collected-covered a cs z h = let e = owed-claimed a z in let f = within-owed a cs h in omega arith
 
+-- f gives 0 for an account of zero; the number of a member is then that of its account
+of-account : (f : ℤ → ℕ) → f (pos 0) ≡ 0 → (a : List ℤ) (m : ℕ) → getD (map f a) m 0 ≡ f (getD a m (pos 0))
+of-account f z [] m = sym z
+of-account f z (x ∷ a) zero = refl
+of-account f z (x ∷ a) (suc m) = of-account f z a m
+
 -- the claim of a member is that of its account
 pub claim-at : (a : List ℤ) (m : ℕ) → getD (claims a) m 0 ≡ claim (getD a m (pos 0))
-claim-at [] m = refl
-claim-at (z ∷ a) zero = refl
-claim-at (z ∷ a) (suc m) = claim-at a m
+claim-at = of-account claim refl
+
+-- what a member owes is what its account owes
+pub debt-at : (a : List ℤ) (m : ℕ) → getD (debts a) m 0 ≡ owed (getD a m (pos 0))
+debt-at = of-account owed refl
 
 -- there are as many claims as accounts
 pub claims-length : (a : List ℤ) → length (claims a) ≡ length a
 claims-length a = length-map a claim
+
+-- each account owes something or nothing, so there are as many debts as accounts
+pub debts-length : (a : List ℤ) → length (debts a) ≡ length a
+debts-length a = length-map a owed
 
 -- the claims of 32 bounded accounts add up to at most 2 ^ 48
 pub claims-small : (a : List ℤ) → length a ≡ memberCount → Bounded a → sum (claims a) ≤ 2 ^ 48
@@ -70,8 +82,8 @@ claims-small a members small =
     let e = ap (λ (n : ℕ). n * mostAccount) (claims-length a ∙ members) in
     omega arith
 
--- a list that has the claim of each account is the list of the claims
-pub claims-listed : (a : List ℤ) (xs : List ℕ) → length a ≡ memberCount → length xs ≡ memberCount →
-    ((m : ℕ) → m < memberCount → getD xs m 0 ≡ claim (getD a m (pos 0))) → xs ≡ claims a
-claims-listed a xs la lx h =
-    ext-getD 0 xs (claims a) (lx ∙ sym la ∙ sym (claims-length a)) (λ m l. h m (omega arith) ∙ sym (claim-at a m))
+-- a list that has the number of each account is the list of these numbers
+pub of-accounts : (f : ℤ → ℕ) → f (pos 0) ≡ 0 → (a : List ℤ) (xs : List ℕ) → length a ≡ memberCount → length xs ≡ memberCount →
+    ((m : ℕ) → m < memberCount → getD xs m 0 ≡ f (getD a m (pos 0))) → xs ≡ map f a
+of-accounts f z a xs la lx h =
+    ext-getD 0 xs (map f a) (lx ∙ sym la ∙ sym (length-map a f)) (λ m l. h m (omega arith) ∙ sym (of-account f z a m))

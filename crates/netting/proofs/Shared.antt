@@ -1,20 +1,22 @@
 -- Laws on the shares of a month. They add up to what was collected. Each is the claim's share rounded down or one cent
--- more, and at most the claim. The cents go by the order of the remainders. A "floor" is a share rounded down.
+-- more, and at most the claim. The cents go by the order of the remainders. If all that is claimed was collected, each
+-- member gets its claim. A "floor" is a share rounded down.
 use Prim.Native.Nat.{ℕ, zero, suc, _+_, _*_, _≤_, _<_}
 use native.Mathlib.Nat.{add-mul, mul-comm, mul-zero, mul-le-mul-right, le-of-mul-le-mul-right, lt-of-mul-lt-mul-right}
-use native.Mathlib.Nat.{mod-lt, div-add-mod', zero-div, zero-mod}
+use native.Mathlib.Nat.{mod-lt, div-add-mod', mul-div-right, zero-div, zero-mod}
 use native.Mathlib.Omega.{arith}
 use mathlib.Core.Bool.{Bool, true}
 use mathlib.Core.List.{List}
 use mathlib.Core.Logic.{_⊎_, inl, inr, ⊎-elim}
-use mathlib.Core.Path.{_≡_, refl, ap, _∙_}
+use mathlib.Core.Path.{_≡_, refl, sym, ap, _∙_}
 use lib.Dec.{ltb}
 use lib.ListN.{length, getD, replicate}
+use lib.Seq.{ext-getD}
 use borrow.Author.Tests.{ltb-true, ltb-false, lt-ltb}
 use Rattle.basics.specs.Lists.{total, sum, table, tableFrom, countBelow}
 use Rattle.basics.proofs.Cases.{pick-case, below-or-not}
 use Rattle.basics.proofs.Sums.{one-most}
-use Rattle.basics.proofs.Tables.{table-at}
+use Rattle.basics.proofs.Tables.{table-length, table-at}
 use Rattle.basics.proofs.TableSums.{sum-both}
 use Rattle.netting.specs.Shares.{floorShare, remainder, centsLeft, comesBefore, rank, extraCent, share, shares}
 use Rattle.basics.proofs.Counts.{count-within, count-most, sum-same, sum-ones, sum-counted, sum-parts}
@@ -236,3 +238,28 @@ module _ (c : ℕ) (gs : List ℕ) (members : length gs ≡ memberCount) where
         let x = share-at c gs m lm ∙ share-is m in
         let y = share-at c gs k lk ∙ share-is k in
         rank-first (remainder c gs) m k lk (omega (arith, won m (omega arith), missed k (omega arith)))
+
+-- where just as much is collected as is claimed, the floor of a claim is the claim itself
+whole-floor : (gs : List ℕ) (m : ℕ) → 0 < getD gs m 0 → floorShare (sum gs) gs m ≡ getD gs m 0
+unfolding floorShare
+whole-floor gs m some = mul-div-right (getD gs m 0) {m = sum gs} (omega (arith, one-most gs m))
+
+-- then each member gets its claim
+module _ (gs : List ℕ) (members : length gs ≡ memberCount) where
+  all-claimed : sum gs ≤ sum gs
+  all-claimed = omega arith
+
+  whole-share : (m : ℕ) → m < memberCount → getD (shares (sum gs) gs) m 0 ≡ getD gs m 0
+  whole-share m l =
+      ⊎-elim
+      (λ (g : 0 < getD gs m 0).
+      ⊎-elim (λ w. w ∙ whole-floor gs m g) (λ w. absurd (omega (arith, whole-floor gs m g, shares-most (sum gs) gs members all-claimed m l)))
+      (shares-floor (sum gs) gs members all-claimed m l))
+      (λ (g : getD gs m 0 ≤ 0). let z : getD gs m 0 ≡ 0 = omega arith in shares-no-claim (sum gs) gs m l z ∙ sym z)
+      (below-or-not 0 (getD gs m 0))
+
+  pub shares-whole : shares (sum gs) gs ≡ gs
+  unfolding shares
+  shares-whole =
+      let size : length (shares (sum gs) gs) ≡ memberCount = table-length memberCount (share (sum gs) gs) in
+      ext-getD 0 (shares (sum gs) gs) gs (size ∙ sym members) (λ m l. whole-share m (omega (arith, size)))

@@ -23,6 +23,10 @@ owed (negsuc n) = suc n
 abbrev pub claims : List ℤ → List ℕ
 claims accounts = map claim accounts
 
+-- M4, Month: what each of the members owes, in rising number
+abbrev pub debts : List ℤ → List ℕ
+debts accounts = map owed accounts
+
 -- C5, Close: the accounts after cents are debited to a member
 unfoldable pub debited : ℕ → ℕ → List ℤ → List ℤ
 debited member cents accounts = set accounts member (getD accounts member (pos 0) -ℤ pos cents)

@@ -6,15 +6,19 @@ use lib.Dec.{eqb, ltb}
 use lib.IntN.{ℤ}
 use lib.ListN.{length}
 use Rattle.basics.specs.Lists.{sum}
-use Rattle.netting.specs.Accounts.{memberCount, owed, claims}
+use Rattle.netting.specs.Accounts.{memberCount, owed, claims, debts}
 use Rattle.netting.specs.Shares.{shares}
 use Rattle.refusals.specs.Refusals.{Refusal, refuse, answer, outcome}
 
--- R5, Refusals, of Month: one of the two lists has not just 32 words
-abbrev pub badLists : ℕ → ℕ → Bool
-badLists collected places = not (eqb collected memberCount) || not (eqb places memberCount)
+-- R5, Refusals, of Month: a list of this many collected amounts is neither empty nor one of 32
+abbrev pub badAmounts : ℕ → Bool
+badAmounts collected = not (eqb collected 0 || eqb collected memberCount)
 
--- R19, Refusals: an amount is above what its member owes
+-- R5, Refusals, of Month: the list of collected amounts has such a length, or there are not just 32 places for payouts
+abbrev pub badLists : ℕ → ℕ → Bool
+badLists collected places = badAmounts collected || not (eqb places memberCount)
+
+-- R19, Refusals: an amount is above what its member owes. An empty list has no amount.
 unfoldable pub overCollected : List ℤ → List ℕ → Bool
 overCollected [] cs = false
 overCollected (a ∷ accounts) [] = false
@@ -33,9 +37,15 @@ monthRefusals accounts since collected places =
 abbrev pub monthNumber : List ℤ → Bool → List ℕ → ℕ → ℕ
 monthNumber accounts since collected places = answer (monthRefusals accounts since collected places)
 
+-- M3 and M12, Month: what the members paid, if these are their debts. An empty list of collected amounts means that
+-- each of them paid what it owes. Any other list has the amounts that they paid.
+abbrev pub amountsPaid : List ℕ → List ℕ → List ℕ
+amountsPaid owing [] = owing
+amountsPaid owing (c ∷ cs) = c ∷ cs
+
 -- M5 and M6, Month: the shares of the claims in what was collected
 abbrev pub payoutsOf : List ℤ → List ℕ → List ℕ
-payoutsOf accounts collected = shares (sum collected) (claims accounts)
+payoutsOf accounts collected = shares (sum (amountsPaid (debts accounts) collected)) (claims accounts)
 
 -- M3, Month, and A5, Refusals: every word of the places for payouts as the call ends
 unfoldable pub paidOut : List ℤ → Bool → List ℕ → List ℕ → List ℕ

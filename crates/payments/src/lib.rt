@@ -1,27 +1,49 @@
 // Month: what is collected from the members that owe, and paid out to those that claim.
 use netting::MEMBER_COUNT;
 ghost use mathlib.Core.Path.{_≡_};
-ghost use lib.ListN.{length};
+ghost use Prim.Native.Nat.{_<_};
+ghost use mathlib.Core.Bool.{false};
+ghost use lib.ListN.{length, getD};
 ghost use lib.IntN.{pos};
-ghost use Rattle.netting.specs.Accounts.{memberCount, Bounded, balance};
-ghost use Rattle.payments.specs.Month.{badLists, overCollected, monthNumber, paidOut};
+ghost use Rattle.netting.specs.Accounts.{memberCount, debts, Bounded, balance};
+ghost use Rattle.payments.specs.Month.{badAmounts, badLists, overCollected, amountsPaid, monthNumber, paidOut};
 
-// Whether one of the two lists has not just one word a member.
+// Whether a list of this many collected amounts is neither empty nor one of all members.
+fn are_bad_amounts(collected: usize) -> bool
+    ensures { λ r. ⌜ r ≡ badAmounts collected ⌝ }
+{
+    collected != 0 && collected != MEMBER_COUNT
+}
+
+// Whether one of the two lists has a wrong length.
 fn are_bad_lists(collected: usize, places: usize) -> bool
     ensures { λ r. ⌜ r ≡ badLists collected places ⌝ }
 {
-    collected != MEMBER_COUNT || places != MEMBER_COUNT
+    are_bad_amounts(collected) || places != MEMBER_COUNT
 }
 
-// Copies a list of amounts, one a member, into an array.
-fn amounts_of(list: &[u64]) -> [u64; MEMBER_COUNT]
-    requires { ⌜ length (now list) ≡ memberCount ⌝ }
-    ensures { λ r. ⌜ r ≡ now (list .entry) ⌝ }
+// Returns what a member paid: its amount in the list, or what it owes if the list is empty.
+fn amount_of(accounts: [i64; MEMBER_COUNT], list: &[u64], m: usize) -> u64
+    requires { ⌜ (Bounded accounts) × (m < memberCount) × (badAmounts (length (now list)) ≡ false) ⌝ }
+    ensures { λ r. ⌜ r ≡ getD (amountsPaid (debts accounts) (now (list .entry))) m 0 ⌝ }
+    ensures { λ r. ⌜ now (list .exit) ≡ now (list .entry) ⌝ }
+{
+    if list.len() == 0 {
+        let account = accounts[m];
+        return netting::owed_by(account);
+    }
+    list[m]
+}
+
+// Returns what each member paid.
+fn amounts_of(accounts: [i64; MEMBER_COUNT], list: &[u64]) -> [u64; MEMBER_COUNT]
+    requires { ⌜ (Bounded accounts) × (badAmounts (length (now list)) ≡ false) ⌝ }
+    ensures { λ r. ⌜ r ≡ amountsPaid (debts accounts) (now (list .entry)) ⌝ }
 {
     let mut amounts = [0u64; MEMBER_COUNT];
     let mut m = 0;
     while m < MEMBER_COUNT {
-        amounts[m] = list[m];
+        amounts[m] = amount_of(accounts, list, m);
         m += 1;
     }
     amounts
@@ -56,7 +78,7 @@ fn pay(shares: [u64; MEMBER_COUNT], places: &mut [u64])
 }
 
 // Collects and pays out, or refuses, and returns the answer number. `since` says whether a Close was accepted since Open
-// or since the last accepted Month.
+// or since the last accepted Month. An empty list of collected amounts means that each member paid what it owes.
 pub fn settle_month(
     accounts: [i64; MEMBER_COUNT],
     since: bool,
@@ -71,7 +93,7 @@ pub fn settle_month(
     if are_bad_lists(collected.len(), places.len()) {
         return 5;
     }
-    let amounts = amounts_of(collected);
+    let amounts = amounts_of(accounts, collected);
     if is_over(accounts, amounts) {
         return 19;
     }

@@ -166,7 +166,7 @@ pub record LooksAs (b : Book) (a : Asked) (answer : Answer) : Type 0 where
 
 -- the edition of the rules: the number of the latest change in docs/RULES.md
 abbrev pub edition : ℕ
-edition = 1
+edition = 2
 
 -- the answer to rules: 0 and the edition
 abbrev pub editionTold : Answer

@@ -288,7 +288,7 @@ pub fn looked(looked: Looked) -> Answer
 }
 
 // The edition of the rules that the book follows: the number of the latest change in docs/RULES.md.
-pub const EDITION: u64 = 1;
+pub const EDITION: u64 = 2;
 
 pub fn rules() -> Answer
     ensures { λ r. ⌜ r ≡ editionTold ⌝ }

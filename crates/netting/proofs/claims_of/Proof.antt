@@ -1,13 +1,13 @@
 -- `claims_of` meets its contract: after m turns the first m places hold the claims of the first m accounts.
 use Prim.Native.Nat.{ℕ, _-_, _≤_, _<_}
 use native.Mathlib.Omega.{arith}
-use mathlib.Core.Path.{_≡_, ap, _∙_}
+use mathlib.Core.Path.{_≡_, refl, ap, _∙_}
 use lib.IntN.{pos}
 use lib.ListN.{length, getD}
 use borrow.Author.Needs.{needs}
 use Rattle.basics.proofs.Tables.{filled-more}
 use Rattle.netting.specs.Accounts.{memberCount, claim}
-use Rattle.netting.proofs.Debts.{claims-listed}
+use Rattle.netting.proofs.Debts.{of-accounts}
 use Rattle.netting.proofs.Signed.{read-is}
 use Rattle.netting.proofs.claims_of.Statement.{statement}
 use Rattle.netting.proofs.claims_of.Tie as tie
@@ -61,7 +61,7 @@ returns : tie.Need-returns Inv-loop μ-loop
 returns c =
     let v = c .before .loop .inv in
     let a = c .before .before .args .t1 in
-    claims-listed a (c .before .loop .claims) (search needs) (v .1) (λ k l. v .2 k (omega arith))
+    of-accounts claim refl a (c .before .loop .claims) (search needs) (v .1) (λ k l. v .2 k (omega arith))
 
 pub claims-of-spec : {M : Type 1} → statement M
 claims-of-spec =
