@@ -591,8 +591,7 @@ impl Book {
         }
     }
 
-    /// Rules, Month, and P2: an empty list of collected amounts means that each debtor paid what it
-    /// owes.
+    /// Rules, Month, and P2: if the list of collected amounts is empty, each debtor paid its debt in full.
     pub fn month(&mut self, collected: &[u64], payouts: &mut [u64]) -> Result<(), Refusal> {
         let wrong_length = ![0, MEMBERS].contains(&collected.len());
         refuse_if(5, wrong_length || payouts.len() != MEMBERS)?;

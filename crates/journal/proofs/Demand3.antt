@@ -127,7 +127,7 @@ pub record Promise (s : Run) : Type 1 where
   -- J13 and J14: each accepted Month pays out just what it collected, and each creditor gets its share
   pub months : EveryMonth (s .past)
   -- J17: after the list, a Month that is given what each member owes by the events ends as an empty one does
-  pub paid-in-full : SameAsEmpty (s .book) (debtsIn (s .past))
+  pub typed-or-empty : SameAsEmpty (s .book) (debtsIn (s .past))
   -- C7 and C8: at each accepted Close the offers for each obligation in its buy-in days give in their turns
   pub buy-ins : EveryBuyIn (s .opening) (s .past)
   -- B9: every obligation whose age is above grace has had its Close at age = grace, which left a price for the cap

@@ -51,7 +51,7 @@ pub record Closes (b : Book) (f : Facts) (d : Ended) : Type 0 where
   pub on : nextDay b ≡ At next
   pub legs : f .legs ≡ neither
 
--- what is known of a call that collected amounts: it was not refused, and its list ended as the payouts of the rules
+-- what is known of a call that was given a list of collected amounts: it was not refused, and its list ended as the payouts of the rules
 pub record Pays (b : Book) (cs words : List ℕ) : Type 0 where
   pub places : ℕ
   pub accepted : monthAnswer b cs places ≡ 0

@@ -94,7 +94,7 @@ unfoldable pub penaltiesOf : ℕ → (ℕ → Option Instructed) → List Line �
 penaltiesOf m instructed [] = pos 0
 penaltiesOf m instructed (l ∷ ls) = pick (eqb (l .kind) penaltyKind) (creditOf m (l .cents) (instructed (l .obligation))) (pos 0) +ℤ penaltiesOf m instructed ls
 
--- whether an event that was given this list of collected amounts, or none, is a Month
+-- whether an event is a Month, by the list of collected amounts in its facts; an empty list is a list too
 abbrev pub isMonth : Option (List ℕ) → Bool
 isMonth none = false
 isMonth (some cs) = true

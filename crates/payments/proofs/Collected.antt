@@ -91,7 +91,7 @@ unfolding overCollected
 empty-over [] = refl
 empty-over (a ∷ xs) = refl
 
--- what the members paid is above what they owe where the list says so
+-- what the members paid is above what they owe exactly where an amount of the list is
 pub over-paid : (xs : List ℤ) (cs : List ℕ) → overCollected xs (amountsPaid (debts xs) cs) ≡ overCollected xs cs
 over-paid xs [] = over-none xs ∙ sym (empty-over xs)
 over-paid xs (c ∷ cs) = refl

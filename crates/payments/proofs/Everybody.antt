@@ -1,4 +1,5 @@
--- Everybody paid: an empty list of collected amounts pays every claim, and a list of just what each member owes is as good.
+-- Everybody paid: an empty list of collected amounts pays every claim, and a list of just what each member owes gives the
+-- same.
 use Prim.Native.Nat.{ℕ}
 use mathlib.Core.Path.{_≡_, refl, ap, _∙_}
 use mathlib.Core.Bool.{Bool}

@@ -14,7 +14,8 @@ use Rattle.refusals.specs.Refusals.{Refusal, refuse, answer, outcome}
 abbrev pub badAmounts : ℕ → Bool
 badAmounts collected = not (eqb collected 0 || eqb collected memberCount)
 
--- R5, Refusals, of Month: the list of collected amounts has such a length, or there are not just 32 places for payouts
+-- R5, Refusals, of Month: the number of collected amounts is neither 0 nor 32, or there are not just 32 places for
+-- payouts
 abbrev pub badLists : ℕ → ℕ → Bool
 badLists collected places = badAmounts collected || not (eqb places memberCount)
 
@@ -37,8 +38,8 @@ monthRefusals accounts since collected places =
 abbrev pub monthNumber : List ℤ → Bool → List ℕ → ℕ → ℕ
 monthNumber accounts since collected places = answer (monthRefusals accounts since collected places)
 
--- M3 and M12, Month: what the members paid, if these are their debts. An empty list of collected amounts means that
--- each of them paid what it owes. Any other list has the amounts that they paid.
+-- M3 and M12, Month: what the members paid, if these are their debts. If the list of collected amounts is empty, each
+-- of them paid its debt. Any other list has the amounts that they paid.
 abbrev pub amountsPaid : List ℕ → List ℕ → List ℕ
 amountsPaid owing [] = owing
 amountsPaid owing (c ∷ cs) = c ∷ cs

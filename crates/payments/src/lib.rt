@@ -8,7 +8,7 @@ ghost use lib.IntN.{pos};
 ghost use Rattle.netting.specs.Accounts.{memberCount, debts, Bounded, balance};
 ghost use Rattle.payments.specs.Month.{badAmounts, badLists, overCollected, amountsPaid, monthNumber, paidOut};
 
-// Whether a list of this many collected amounts is neither empty nor one of all members.
+// Whether a list of this many collected amounts is neither empty nor one with an amount for each member.
 fn are_bad_amounts(collected: usize) -> bool
     ensures { λ r. ⌜ r ≡ badAmounts collected ⌝ }
 {
@@ -77,8 +77,8 @@ fn pay(shares: [u64; MEMBER_COUNT], places: &mut [u64])
     }
 }
 
-// Collects and pays out, or refuses, and returns the answer number. `since` says whether a Close was accepted since Open
-// or since the last accepted Month. An empty list of collected amounts means that each member paid what it owes.
+// Collects and pays out, or refuses, and returns the answer number. `since` says whether a Close was accepted since
+// Open or since the last accepted Month. If the list of collected amounts is empty, each member paid what it owes.
 pub fn settle_month(
     accounts: [i64; MEMBER_COUNT],
     since: bool,
