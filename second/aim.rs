@@ -479,7 +479,7 @@ impl<W: Write> Generator<W> {
     /// A list that mostly is long enough. The short ones like to be long enough for the lines that
     /// there are.
     pub fn again_arguments(&mut self) -> Vec<u64> {
-        let enough = (self.player.book.lines_to_show() * LINE_WORDS) as u64;
+        let enough = (self.player.book.lines_to_show().len() * LINE_WORDS) as u64;
         let words = match self.random.below(20) {
             0 => 1_151,
             1 => enough,

@@ -544,9 +544,9 @@ impl Book {
         Ok(write_lines(lines, list))
     }
 
-    /// How many lines an Again would show; 0 where it would be refused by 22.
-    pub fn lines_to_show(&self) -> usize {
-        self.last_close.as_ref().map_or(0, Vec::len)
+    /// The lines that an Again would show; none where it would be refused by 22.
+    pub fn lines_to_show(&self) -> &[Line] {
+        self.last_close.as_deref().unwrap_or_default()
     }
 
     /// Rules, Close, the four items, for an obligation with J reached and something outstanding.

@@ -2,9 +2,10 @@
 
 use std::fmt::Write;
 
-use crate::book::{Accounts, Refusal};
+use crate::book::{Accounts, Line, Refusal};
 use crate::journal::{Call, CallSet, NAMES, RULES};
 use crate::month_traps::MonthTraps;
+use crate::play::Player;
 use crate::traps::Traps;
 
 /// The answer numbers that each call can give, in the order of the names.
@@ -41,6 +42,8 @@ const TORN: [&str; 4] = ["call", "no-call", "too-long", "comment"];
 
 pub struct Hits {
     answers: [[u64; 32]; NAMES.len()],
+    /// How many lines of each kind the Closes reported; kinds begin with 1.
+    kinds: [u64; 5],
     again_traps: Traps,
     month_traps: MonthTraps,
     malformed: u64,
@@ -53,6 +56,7 @@ impl Hits {
     pub fn new() -> Self {
         Hits {
             answers: [[0; 32]; NAMES.len()],
+            kinds: [0; 5],
             again_traps: Traps::default(),
             month_traps: MonthTraps::default(),
             malformed: 0,
@@ -62,12 +66,25 @@ impl Hits {
         }
     }
 
-    /// A call that was played. The accounts are those just before it, `lines` is the number of lines
-    /// of the latest accepted Close after it.
-    pub fn call(&mut self, call: &Call, answer: Refusal, accounts: &Accounts, lines: usize) {
+    /// Has a call played and counts it.
+    pub fn play(&mut self, player: &mut Player, call: Call, out: &mut Vec<u8>) {
+        // The call may change the accounts, and the traps go by what they were before it.
+        let accounts = player.book.accounts;
+        let answer = player.play(call, out);
+        self.call(&call, answer, &accounts, player.book.lines_to_show());
+    }
+
+    /// A call that was played. The accounts are those just before it, the lines are those of the
+    /// latest accepted Close after it.
+    fn call(&mut self, call: &Call, answer: Refusal, accounts: &Accounts, lines: &[Line]) {
         let place = index(call);
         self.answers[place][usize::from(answer)] += 1;
-        self.again_traps.call(place, call, answer, lines);
+        if place == CLOSE && answer == 0 {
+            for line in lines {
+                self.kinds[line[0] as usize] += 1;
+            }
+        }
+        self.again_traps.call(place, call, answer, lines.len());
         self.month_traps.call(call, answer, accounts);
     }
 
@@ -89,7 +106,7 @@ impl Hits {
     /// One line for each pair of a call and an answer it can give, also for those not reached,
     /// for the kinds of a Close's lines and the traps of Again and Month, and for the lines that are
     /// no calls and the ways in which a journal can end.
-    pub fn table(&self, calls: &CallSet, kinds: &[u64; 5]) -> String {
+    pub fn table(&self, calls: &CallSet) -> String {
         let mut table = String::new();
         let mut row =
             |row: std::fmt::Arguments| writeln!(table, "{row}").expect("a String takes all");
@@ -104,7 +121,7 @@ impl Hits {
             }
         }
         if calls.has(CLOSE) {
-            for (kind, count) in kinds.iter().enumerate().skip(1) {
+            for (kind, count) in self.kinds.iter().enumerate().skip(1) {
                 row(format_args!("kind {kind} {count}"));
             }
         }
@@ -150,11 +167,10 @@ fn index(call: &Call) -> usize {
 #[cfg(test)]
 mod tests {
     use super::*;
-    use crate::book::MEMBERS;
 
     /// The rows of the table that were met.
     fn met(hits: &Hits, calls: &CallSet) -> Vec<String> {
-        let table = hits.table(calls, &[0; 5]);
+        let table = hits.table(calls);
         let rows = table.lines().filter(|row| !row.ends_with(" 0"));
         rows.map(str::to_string).collect()
     }
@@ -163,8 +179,8 @@ mod tests {
     fn what_is_met_is_counted() {
         let mut hits = Hits::new();
         assert_eq!(met(&hits, &CallSet::all()), [""; 0]);
-        hits.call(&Call::Rules, 0, &[0; MEMBERS], 0);
-        hits.call(&Call::Rules, 0, &[0; MEMBERS], 0);
+        hits.play(&mut Player::new(), Call::Rules, &mut Vec::new());
+        hits.play(&mut Player::new(), Call::Rules, &mut Vec::new());
         hits.malformed();
         for says in [Torn::Call, Torn::NoCall, Torn::TooLong, Torn::Comment] {
             hits.torn(says);
@@ -189,7 +205,7 @@ mod tests {
 
     #[test]
     fn what_is_not_met_is_listed() {
-        let table = Hits::new().table(&CallSet::all(), &[0; 5]);
+        let table = Hits::new().table(&CallSet::all());
         for row in [
             "again 22 0",
             "rules 0 0",
@@ -212,7 +228,7 @@ mod tests {
             ("open,close,month", false, true),
         ] {
             let calls = CallSet::listed(list).unwrap();
-            let table = Hits::new().table(&calls, &[0; 5]);
+            let table = Hits::new().table(&calls);
             assert_eq!(table.contains("trap again-"), again, "{list}");
             assert_eq!(table.contains("trap month-"), month, "{list}");
         }

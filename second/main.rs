@@ -51,12 +51,13 @@ fn options() -> Result<Options, String> {
     Ok(options)
 }
 
-/// A journal, the book it is played on, and the counts.
+/// A journal, the book it is played on, and the counts where they are asked for.
 struct Run<R> {
     journal: LineReader<R>,
     calls: CallSet,
     player: Player,
-    hits: Hits,
+    /// Counting takes time, so that there is none of it where nobody asks for the table.
+    hits: Option<Hits>,
     numbers: Vec<u64>,
 }
 
@@ -67,7 +68,7 @@ impl<R: Read> Run<R> {
             journal: LineReader::new(journal, MAX_LINE + 1),
             calls,
             player: Player::new(),
-            hits: Hits::new(),
+            hits: None,
             numbers: Vec::new(),
         }
     }
@@ -82,32 +83,29 @@ impl<R: Read> Run<R> {
         if is_comment(line) {
             return;
         }
-        if let Some(call) = parse(line, &self.calls, &mut self.numbers) {
-            let accounts = self.player.book.accounts;
-            let answer = self.player.play(call, out);
-            let lines = self.player.book.lines_to_show();
-            self.hits.call(&call, answer, &accounts, lines);
-        } else {
+        let Some(call) = parse(line, &self.calls, &mut self.numbers) else {
             put_line(out, b"? line ", self.journal.number);
-            self.hits.malformed();
+            if let Some(hits) = &mut self.hits {
+                hits.malformed();
+            }
+            return;
+        };
+        match &mut self.hits {
+            Some(hits) => hits.play(&mut self.player, call, out),
+            None => {
+                self.player.play(call, out);
+            }
         }
     }
 
     /// A torn line is no call, whatever it says; what it says is only counted.
     fn play_torn_line(&mut self, out: &mut Vec<u8>) {
         let line = self.journal.line();
-        let says = if is_comment(line) {
-            Torn::Comment
-        } else if line.len() > MAX_LINE {
-            Torn::TooLong
-        } else if parse(line, &self.calls, &mut self.numbers).is_some() {
-            Torn::Call
-        } else {
-            Torn::NoCall
-        };
-        self.hits.torn(says);
         if !is_comment(line) {
             put_line(out, b"? line ", self.journal.number);
+        }
+        if let Some(hits) = &mut self.hits {
+            hits.torn(torn_says(line, &self.calls, &mut self.numbers));
         }
     }
 
@@ -115,7 +113,9 @@ impl<R: Read> Run<R> {
     fn play_end(&mut self, out: &mut Vec<u8>) {
         let lines = self.journal.number;
         put_line(out, b"end ", lines);
-        self.hits.end(lines > 0 && !self.journal.torn);
+        if let Some(hits) = &mut self.hits {
+            hits.end(lines > 0 && !self.journal.torn);
+        }
     }
 
     fn play_all(&mut self, output: &mut impl Write) -> io::Result<()> {
@@ -183,9 +183,18 @@ impl<R: Read> Run<R> {
             given,
         )
     }
+}
 
-    fn write_hits(&self, path: &str) -> io::Result<()> {
-        File::create(path)?.write_all(self.hits.table(&self.calls, &self.player.kinds).as_bytes())
+/// What a torn line says. The list of numbers is lent to the reading of calls.
+fn torn_says(line: &[u8], calls: &CallSet, numbers: &mut Vec<u64>) -> Torn {
+    if is_comment(line) {
+        Torn::Comment
+    } else if line.len() > MAX_LINE {
+        Torn::TooLong
+    } else if parse(line, calls, numbers).is_some() {
+        Torn::Call
+    } else {
+        Torn::NoCall
     }
 }
 
@@ -213,6 +222,7 @@ fn plain_file(stream: impl AsFd) -> io::Result<File> {
 
 fn run(options: &Options) -> io::Result<bool> {
     let mut run = Run::new(plain_file(io::stdin())?, options.calls);
+    run.hits = options.hits.is_some().then(Hits::new);
     let difference = match &options.check {
         Some(path) => run.check_all(File::open(path)?)?,
         None => {
@@ -220,8 +230,8 @@ fn run(options: &Options) -> io::Result<bool> {
             None
         }
     };
-    if let Some(path) = &options.hits {
-        run.write_hits(path)?;
+    if let (Some(path), Some(hits)) = (&options.hits, &run.hits) {
+        File::create(path)?.write_all(hits.table(&options.calls).as_bytes())?;
     }
     if let Some(text) = &difference {
         io::stdout().write_all(text.as_bytes())?;
@@ -296,13 +306,22 @@ mod tests {
         assert_eq!(out, b"? line 1\nend 1\n");
     }
 
-    /// The rows of the table of hits that were met.
+    /// The rows of the table of hits that were met. Counting changes no answer.
     fn met(journal: &[u8]) -> Vec<String> {
-        let mut run = run_of(journal);
-        run.play_all(&mut Vec::new()).unwrap();
-        let table = run.hits.table(&run.calls, &run.player.kinds);
+        let (mut run, mut out) = (run_of(journal), Vec::new());
+        run.hits = Some(Hits::new());
+        run.play_all(&mut out).unwrap();
+        assert_eq!(out, answers(journal).as_bytes());
+        let table = run.hits.unwrap().table(&run.calls);
         let rows = table.lines().filter(|row| !row.ends_with(" 0"));
         rows.map(str::to_string).collect()
+    }
+
+    #[test]
+    fn the_kinds_of_lines_are_counted_once() {
+        let rows = met(format!("{LATE}close 1 1 1151 0\nagain 1152 0\n").as_bytes());
+        let kinds: Vec<_> = rows.iter().filter(|row| row.starts_with("kind")).collect();
+        assert_eq!(kinds, ["kind 1 2"]);
     }
 
     #[test]

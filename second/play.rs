@@ -9,8 +9,6 @@ const EDITION: u64 = 2;
 /// A book and the lists that are lent to its calls.
 pub struct Player {
     pub book: Book,
-    /// How many lines of each kind the Closes reported; kinds begin with 1.
-    pub kinds: [u64; 5],
     lent: Vec<u64>,
 }
 
@@ -19,7 +17,6 @@ impl Player {
     pub fn new() -> Self {
         Player {
             book: Book::of_refused_open(),
-            kinds: [0; 5],
             lent: Vec::new(),
         }
     }
@@ -104,10 +101,6 @@ impl Player {
     ) -> Refusal {
         self.lend(words, fill);
         let closed = self.book.close(price, rate, &mut self.lent);
-        let told = closed.unwrap_or(0) * LINE_WORDS;
-        for line in self.lent[..told].chunks(LINE_WORDS) {
-            self.kinds[line[0] as usize] += 1;
-        }
         put_lines(out, closed, &self.lent, fill)
     }
 
@@ -250,22 +243,12 @@ mod tests {
     }
 
     #[test]
-    fn again_is_told_as_a_close_and_counts_no_kinds() {
-        let mut player = Player::new();
-        let mut play = |line: &str| {
-            let (mut numbers, mut out) = (Vec::new(), Vec::new());
-            let call = parse(line.as_bytes(), &CallSet::all(), &mut numbers);
-            player.play(call.expect("a call"), &mut out);
-            (String::from_utf8(out).expect("plain ASCII"), player.kinds)
-        };
-        play("enter 0 1 0 3 1000 2");
-        play("enter 1 0 1 3 1000 2");
-        let closed = play("close 100000 100 1153 9");
-        let shown = play("again 1153 8");
-        assert_eq!(closed, shown);
-        assert_eq!(closed.0, "0 1\n  1 0 3 30 0 0\n  kept 1147\n");
-        assert_eq!(closed.1, [0, 1, 0, 0, 0]);
-        assert_eq!(play("again 1151 8").0, "5 0\n  kept 1151\n");
+    fn again_is_told_as_a_close() {
+        let journal = "enter 0 1 0 3 1000 2\nenter 1 0 1 3 1000 2\nclose 100000 100 1153 9\n\
+            again 1153 8\nagain 1151 8\n";
+        let told = "0 1\n  1 0 3 30 0 0\n  kept 1147\n";
+        let expected = format!("0 0 0\n0 1 1\n{told}{told}5 0\n  kept 1151\n");
+        assert_eq!(answers(journal), expected);
     }
 
     #[test]

@@ -68,6 +68,16 @@ a-month : shapeRight Shape.Amounts (2 ∷ 5 ∷ 6 ∷ 3 ∷ 9 ∷ []) ≡ true
 unfolding counted listsOf listable shapeRight
 a-month = refl
 
+-- `month 0 32 9` has no amounts and 32 places
+no-amounts : shapeRight Shape.Amounts (0 ∷ 32 ∷ 9 ∷ []) ≡ true
+unfolding counted listsOf listable shapeRight
+no-amounts = refl
+
+-- `month 0 32` is no call, because the value of its places is missing
+value-missing : shapeRight Shape.Amounts (0 ∷ 32 ∷ []) ≡ false
+unfolding counted listsOf listable shapeRight
+value-missing = refl
+
 -- `open 7 10 1` is no call, because its one closed day is missing
 day-missing : shapeRight Shape.Days (7 ∷ 10 ∷ 1 ∷ []) ≡ false
 unfolding counted listsOf listable shapeRight
