@@ -1,10 +1,11 @@
 -- The settled examples of docs/RULES.md hold of the definitions.
-use Prim.Native.Nat.{ℕ, zero, suc, _-_, _≤_, _<_}
+use Prim.Native.Nat.{ℕ, _-_, _≤_, _<_}
 use native.Mathlib.Omega.{arith}
 use mathlib.Core.Path.{_≡_, refl, ap, ap₂, _∙_}
 use mathlib.Core.Bool.{true}
 use lib.ListN.{getD, take, replicate}
-use mathlib.Core.List.{List, [], _∷_, _++_}
+use lib.Seq.{getD-take}
+use mathlib.Core.List.{List, [], _∷_, _++_, append-nil}
 use Rattle.basics.specs.Lists.{total, tableFrom, countBelow, Every}
 use Rattle.basics.specs.Lists.Every.{nobody, also}
 use Rattle.calendar.specs.declared.Day.{Day}
@@ -44,7 +45,7 @@ use Rattle.book.specs.Instructing.{doneRefused}
 use Rattle.refusals.proofs.Refusals.{by-number}
 use Rattle.journal.specs.Calls.{Call}
 use Rattle.journal.specs.Played.{outcome, eventOf, begun}
-use Rattle.examples.specs.Played.{opening, bookAfter, eventsOn, numbersOf, accepted, answersOf, shown, sale, closeAt, daysPass, toBuyIn, compensationPlayed, capOffers, capPlayed, matchPlayed, deliversPlayed, auctionOffers, auctionPlayed, collecting, everybodyPaid, monthPlayed, answerWithLines, answersWithLines, twoSales, againLent, reprintPlayed, monthsPlayed}
+use Rattle.examples.specs.Played.{opening, bookAfter, eventsOn, numbersOf, accepted, answersOf, shown, sale, closeAt, daysPass, toBuyIn, compensationPlayed, capOffers, capPlayed, matchPlayed, deliversPlayed, auctionOffers, auctionPlayed, collecting, everybodyPaid, monthPlayed, answerWithLines, answersWithLines, twoSales, againLent, reprintPlayed}
 use Rattle.examples.specs.Table.{table, boughtFrom, nthDay, dayNumber, oneOfThree, threeCash, compensatedFor, boughtInTwo, twoPenalties, paidInFull}
 
 -- the n-th clearing day is found by counting the clearing days up to it
@@ -218,10 +219,7 @@ example-11-words = ap countAndCents after-month ∙ again-there
 
 -- a place among those that are shown of a list
 pub taken-place : (n : ℕ) (ws : List ℕ) (m : ℕ) → m < n → getD (take n ws ++ []) m 0 ≡ getD ws m 0
-taken-place zero ws m h = absurd (omega arith)
-taken-place (suc n) [] m h = refl
-taken-place (suc n) (w ∷ ws) zero h = refl
-taken-place (suc n) (w ∷ ws) (suc m) h = taken-place n ws m (omega arith)
+taken-place n ws m h = rw (append-nil (take n ws)) (getD-take n ws m 0 h)
 
 -- X12, Settled examples: the Month that collects all that is owed, and the Month for which everybody paid
 pub example-12 : (monthPlayed twoSales (collecting 300) ≡ paidInFull) × (monthPlayed twoSales everybodyPaid ≡ paidInFull)

@@ -131,7 +131,7 @@ auctionOffers = offer 0 1 7 101000 ∷ offer 0 2 5 100500 ∷ offer 0 3 7 101000
 abbrev pub auctionPlayed : List ℕ
 auctionPlayed = shown answersOf (toBuyIn 100000) (auctionOffers ++ closeAt 100000 0 ∷ [])
 
--- X11, Settled examples: member 3 sells 200 units to member 0 and 100 units to member 1, due on day 2
+-- X8, X11 and X12, Settled examples: member 3 sells 200 units to member 0 and 100 units to member 1, due on day 2
 abbrev pub twoSales : List Call
 twoSales = sale 3 0 200 1000 ++ sale 3 1 100 1000
 

@@ -5,12 +5,12 @@ use mathlib.Core.Path.{_≡_, refl, ap, _∙_}
 use mathlib.Core.List.{List, map}
 use mathlib.Core.Option.{some}
 use lib.IntN.{ℤ, pos}
-use lib.ListN.{length}
+use lib.ListN.{length, length-map}
 use Rattle.basics.specs.Lists.{sum, table}
 use Rattle.basics.proofs.Tables.{table-length, table-at}
 use Rattle.netting.specs.Accounts.{claim, owed, claims, debts}
 use Rattle.netting.specs.Shares.{floorShare}
-use Rattle.netting.proofs.Debts.{of-accounts, claims-length}
+use Rattle.netting.proofs.Debts.{of-accounts}
 use Rattle.netting.proofs.Shared.{shares-total, shares-floor, shares-most}
 use Rattle.payments.specs.Month.{badLists, overCollected, amountsPaid, monthRefusals, payoutsOf}
 use Rattle.payments.proofs.Collected.{good-lists, collected-shareable}
@@ -51,7 +51,7 @@ month-shares o b es g cs places e =
     let size = v .ledger .accounts .size in
     let even = v .ledger .accounts .even in
     let fit = collected-shareable a cs size (good-lists (length cs) places (p5 .0) .0) even (accounts-bounded b v) (p19 .0) in
-    let members : length (claims a) ≡ 32 = claims-length a ∙ size in
+    let members : length (claims a) ≡ 32 = length-map a claim ∙ size in
     let c = sum (amountsPaid (debts a) cs) in
     record {
       all = rw (debts-agree o b es g) (shares-total c (claims a) members (fit .covered));

@@ -6,7 +6,7 @@ use mathlib.Core.Bool.{Bool, true, false, false≢true}
 use mathlib.Core.List.{List, [], _∷_}
 use mathlib.Core.Option.{Option, none, some}
 use lib.Dec.{eqb}
-use lib.ListN.{length, getD, take, drop}
+use lib.ListN.{length, getD, take}
 use Rattle.basics.specs.Choice.{pick}
 use Rattle.closing.specs.declared.Line.{Line}
 use Rattle.closing.specs.Lines.{written, linesRead}

@@ -113,8 +113,8 @@ claimsIn es = table 32 (λ m. claim (accountIn m es))
 abbrev pub debtsIn : List Event → List ℕ
 debtsIn es = table 32 (λ m. owed (accountIn m es))
 
--- J13, Whole journals: what a Month after these events collects if it is given these amounts. An empty list means that
--- each member pays what it owes.
+-- J13, Whole journals: what a Month after these events collects if it is given these amounts. If there are none, each
+-- member pays what it owes.
 abbrev pub collectedIn : List ℕ → List Event → List ℕ
 collectedIn amounts es = amountsPaid (debtsIn es) amounts
 

@@ -53,33 +53,17 @@ pub collected-covered : (a : List ℤ) (cs : List ℕ) → balance a ≡ pos 0 �
 collected-covered a cs z h = let e = owed-claimed a z in let f = within-owed a cs h in omega arith
 
 -- f gives 0 for an account of zero; the number of a member is then that of its account
-of-account : (f : ℤ → ℕ) → f (pos 0) ≡ 0 → (a : List ℤ) (m : ℕ) → getD (map f a) m 0 ≡ f (getD a m (pos 0))
+pub of-account : (f : ℤ → ℕ) → f (pos 0) ≡ 0 → (a : List ℤ) (m : ℕ) → getD (map f a) m 0 ≡ f (getD a m (pos 0))
 of-account f z [] m = sym z
 of-account f z (x ∷ a) zero = refl
 of-account f z (x ∷ a) (suc m) = of-account f z a m
-
--- the claim of a member is that of its account
-pub claim-at : (a : List ℤ) (m : ℕ) → getD (claims a) m 0 ≡ claim (getD a m (pos 0))
-claim-at = of-account claim refl
-
--- what a member owes is what its account owes
-pub debt-at : (a : List ℤ) (m : ℕ) → getD (debts a) m 0 ≡ owed (getD a m (pos 0))
-debt-at = of-account owed refl
-
--- there are as many claims as accounts
-pub claims-length : (a : List ℤ) → length (claims a) ≡ length a
-claims-length a = length-map a claim
-
--- each account owes something or nothing, so there are as many debts as accounts
-pub debts-length : (a : List ℤ) → length (debts a) ≡ length a
-debts-length a = length-map a owed
 
 -- the claims of 32 bounded accounts add up to at most 2 ^ 48
 pub claims-small : (a : List ℤ) → length a ≡ memberCount → Bounded a → sum (claims a) ≤ 2 ^ 48
 claims-small a members small =
     let s = sum-most (claims a) mostAccount
-    (λ k l. let e = claim-at a k in let f = claim-most (getD a k (pos 0)) in let g = small k in omega arith) in
-    let e = ap (λ (n : ℕ). n * mostAccount) (claims-length a ∙ members) in
+    (λ k l. let e = of-account claim refl a k in let f = claim-most (getD a k (pos 0)) in let g = small k in omega arith) in
+    let e = ap (λ (n : ℕ). n * mostAccount) (length-map a claim ∙ members) in
     omega arith
 
 -- a list that has the number of each account is the list of these numbers

@@ -9,13 +9,13 @@ use mathlib.Core.Logic.{_⊎_, inl, inr, ⊎-elim}
 use mathlib.Core.List.{List, [], _∷_}
 use lib.Dec.{ltb, eqb}
 use lib.IntN.{ℤ, pos}
-use lib.ListN.{length, getD, drop}
+use lib.ListN.{length, getD, drop, length-map}
 use lib.Seq.{drop-cons, drop-length}
 use borrow.Author.Tests.{ltb-false, le-ltb, eqb-true, not-false}
 use Rattle.basics.specs.Lists.{sum}
 use Rattle.basics.proofs.Cases.{or-false}
 use Rattle.netting.specs.Accounts.{owed, claims, debts, balance, Bounded, Shareable}
-use Rattle.netting.proofs.Debts.{collected-covered, claims-small, debts-length}
+use Rattle.netting.proofs.Debts.{collected-covered, claims-small}
 use Rattle.payments.specs.Month.{badAmounts, badLists, overCollected, amountsPaid}
 
 -- ---- the test member by member
@@ -103,7 +103,7 @@ module _ (xs : List ℤ) (cs : List ℕ) (sa : length xs ≡ 32) (good : badAmou
   pub paid-length : length paid ≡ 32
   paid-length =
       ⊎-elim
-      (λ (z : length cs ≡ 0). ap length (paid-none (debts xs) cs z) ∙ debts-length xs ∙ sa)
+      (λ (z : length cs ≡ 0). ap length (paid-none (debts xs) cs z) ∙ length-map xs owed ∙ sa)
       (λ (z : length cs ≡ 32). ap length (paid-some (debts xs) cs (λ y. omega arith)) ∙ z)
       (none-or-all (length cs) good)
 

@@ -8,7 +8,7 @@ use lib.IntN.{pos}
 use lib.ListN.{length, getD}
 use borrow.Author.Needs.{needs}
 use Rattle.netting.specs.Accounts.{owed, debts}
-use Rattle.netting.proofs.Debts.{debt-at}
+use Rattle.netting.proofs.Debts.{of-account}
 use Rattle.netting.proofs.Signed.{read-is}
 use Rattle.payments.proofs.Collected.{none-or-all, paid-none, paid-some}
 use Rattle.payments.proofs.amount_of.Statement.{statement}
@@ -27,7 +27,7 @@ returns : tie.Need-returns
 returns c = let a = c .before .before .before .before .args in
     let account = read-is (getD (a .t1) (a .m) (pos 0)) (c .before .before .before .before .pre .0 (a .m)) in
     let none = paid-none (debts (a .t1)) (a .list .now) (c .before .before .if1 .taken) in
-    (c .owed-by .ensures ∙ ap owed account ∙ sym (debt-at (a .t1) (a .m)) ∙ ap (λ (l : List ℕ). getD l (a .m) 0) (sym none), refl)
+    (c .owed-by .ensures ∙ ap owed account ∙ sym (of-account owed refl (a .t1) (a .m)) ∙ ap (λ (l : List ℕ). getD l (a .m) 0) (sym none), refl)
 
 mul-result : tie.Need-mul-result
 mul-result c = search needs

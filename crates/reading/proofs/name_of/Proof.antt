@@ -2,11 +2,11 @@
 -- number of the word is none of them, the word has no entry.
 use Prim.Native.Nat.{ℕ}
 use mathlib.Core.Path.{_≡_, refl, sym, _∙_}
-use mathlib.Core.Option.{none, some}
+use mathlib.Core.Option.{some}
 use borrow.Author.Needs.{needs}
 use Rattle.reading.specs.Calls.{Naming, namings, namingOf}
 use Rattle.reading.specs.Found.{onlyLetters, nameable, digitsIn, codeOf, namedOf}
-use Rattle.reading.proofs.Spelling.{foundBy, missed, named-as, named-not}
+use Rattle.reading.proofs.Spelling.{foundBy, named-as, named-not}
 use Rattle.reading.proofs.name_of.Statement.{statement}
 use Rattle.reading.proofs.name_of.Tie as tie
 
