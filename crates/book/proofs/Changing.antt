@@ -6,13 +6,13 @@ use mathlib.Core.Path.{_≡_, refl, ap, _∙_}
 use mathlib.Core.Bool.{true}
 use mathlib.Core.List.{List}
 use borrow.Author.Tests.{ne-eqb}
+use Rattle.basics.specs.Refusals.{Refusal}
+use Rattle.basics.proofs.Refusals.{risingFrom}
 use Rattle.ledger.specs.declared.Obligation.{Obligation}
 use Rattle.ledger.specs.declared.Change.{Change}
 use Rattle.ledger.specs.declared.Ledger.{Ledger}
 use Rattle.ledger.specs.Ledger.{mostObligations, fetched, withObligation, refusedChange, changed}
-use Rattle.refusals.specs.Refusals.{Refusal}
 use Rattle.refusals.specs.Calls.{fetchOutcome}
-use Rattle.refusals.proofs.Refusals.{risingFrom}
 use Rattle.refusals.proofs.Named.{fetch-case, fetch-case₂}
 
 module _ (input : List Refusal) (on : Obligation → List Refusal) (shown : Obligation → ℕ) (next : Obligation → Obligation)

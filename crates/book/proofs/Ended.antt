@@ -9,7 +9,9 @@ use mathlib.Core.Logic.{⊎-elim}
 use lib.ListN.{length}
 use borrow.Author.Tests.{le-leb, lt-ltb}
 use Rattle.basics.specs.Lists.{Every}
+use Rattle.basics.specs.Refusals.{answer}
 use Rattle.basics.proofs.Cases.{below-or-not}
+use Rattle.basics.proofs.Refusals.{done-by, refused-with}
 use Rattle.calendar.specs.declared.Day.{Day}
 use Rattle.calendar.specs.declared.NextDay.{NextDay}
 use Rattle.calendar.specs.declared.NextDay.the-variants.{At, Never}
@@ -36,9 +38,7 @@ use Rattle.closing.proofs.Sizes.{lines-sound}
 use Rattle.reprint.specs.declared.LastClose.{LastClose}
 use Rattle.reprint.specs.Kept.{keptFrom, Keepable}
 use Rattle.reprint.proofs.Keeping.{kept-valid}
-use Rattle.refusals.specs.Refusals.{answer}
 use Rattle.refusals.specs.Calls.{closeRefusals, closeRefusalsIn, fewestWords}
-use Rattle.refusals.proofs.Refusals.{done-by, refused-with}
 use Rattle.refusals.proofs.Ending.{Given, close-given, close-at, again-given}
 use Rattle.book.specs.declared.Book.{Book}
 use Rattle.book.specs.declared.Closed.{Closed}

@@ -5,6 +5,7 @@ use mathlib.Core.Bool.{Bool, true, false}
 use lib.Dec.{eqb}
 use borrow.Author.Tests.{eqb-true}
 use Rattle.basics.specs.Choice.{pick}
+use Rattle.basics.specs.Refusals.{outcome}
 use Rattle.instructions.specs.declared.Instruction.{Instruction}
 use Rattle.instructions.specs.declared.Fit.{Fit}
 use Rattle.instructions.specs.declared.Fit.the-variants.{With, Nobody}
@@ -13,7 +14,6 @@ use Rattle.instructions.specs.declared.Entry.the-variants.{Refused}
 use Rattle.instructions.specs.Legs.{legOf}
 use Rattle.instructions.specs.Match.{lowestFit}
 use Rattle.instructions.specs.Entry.{entryBy, entryOf, Enterable}
-use Rattle.refusals.specs.Refusals.{outcome}
 use Rattle.book.specs.declared.Book.{Book}
 use Rattle.book.specs.Book.{Valid}
 use Rattle.book.specs.Instructing.{enterReturns, enteredAlone, enteredWith, enteredBy, enterRefused, Matchable}

@@ -7,8 +7,10 @@ use lib.Dec.{eqb}
 use borrow.Author.Tests.{ltb-false, leb-false, eqb-false, not-false}
 use Rattle.ledger.proofs.Valid.{valid-changed, valid-more, valid-offer}
 use Rattle.basics.specs.Choice.{pick}
+use Rattle.basics.specs.Refusals.{answer}
 use Rattle.basics.proofs.Cases.{pick-case, or-false}
 use Rattle.basics.proofs.Places.{set-case}
+use Rattle.basics.proofs.Refusals.{passed, outcome-case}
 use Rattle.calendar.specs.declared.Day.{Day}
 use Rattle.calendar.specs.Days.{clearing, ageAt}
 use Rattle.calendar.proofs.Ages.{age-early}
@@ -30,12 +32,10 @@ use Rattle.ledger.specs.Obligations.{noObligation, wishing, SoundDeal, Sound, d
 use Rattle.ledger.specs.Ledger.{obligationAt, withObligation, withNew, ValidLedger}
 use Rattle.ledger.proofs.Keeping.{new-sound, moving-sound, wishing-sound, Later, moving-later, wishing-later}
 use Rattle.book.specs.declared.Book.{Book}
-use Rattle.refusals.specs.Refusals.{answer}
 use Rattle.book.specs.Book.{withLegs, withLedger, closedOf, todayOf, ageOf, Timely, Valid}
 use Rattle.book.specs.Instructing.{newLeg, obligationOf, enteredAlone, enteredWith, enteredBy, enterRefused, enter, withdraw, cancel, deliver}
 use Rattle.refusals.specs.Calls.{enterRefusals, deliverRefusalsOf}
 use Rattle.book.specs.Buying.{offer}
-use Rattle.refusals.proofs.Refusals.{passed, outcome-case}
 use Rattle.refusals.proofs.Offering.{within, offered, offers-few}
 use Rattle.book.proofs.Outcomes.{withdraw-case, cancel-case, deliver-case, offer-case}
 

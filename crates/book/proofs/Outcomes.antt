@@ -5,6 +5,8 @@ use mathlib.Core.Path.{_≡_, refl, sym}
 use mathlib.Core.Bool.{false≢true}
 use mathlib.Core.List.{List}
 use lib.ListN.{length}
+use Rattle.basics.specs.Refusals.{answer, outcome}
+use Rattle.basics.proofs.Refusals.{passed, by-number, by-number₂}
 use Rattle.calendar.specs.declared.Day.{Day}
 use Rattle.calendar.specs.declared.NextDay.{NextDay}
 use Rattle.calendar.specs.declared.NextDay.the-variants.{At, Never}
@@ -14,9 +16,7 @@ use Rattle.instructions.proofs.Fetching.{fetched-leg-case}
 use Rattle.ledger.specs.Ledger.{obligationAt}
 use Rattle.closing.specs.Lines.{written}
 use Rattle.reprint.specs.Kept.{linesKept}
-use Rattle.refusals.specs.Refusals.{answer, outcome}
 use Rattle.refusals.specs.Calls.{cancelRefusalsIn, cancelRefusalsOf, deliverRefusalsIn, deliverRefusalsOf, offerRefusalsIn, closeRefusalsIn, closeRefusals}
-use Rattle.refusals.proofs.Refusals.{passed, by-number, by-number₂}
 use Rattle.refusals.proofs.Named.{fetch-case}
 use Rattle.refusals.proofs.Ending.{close-passed, never-refused}
 use Rattle.book.specs.declared.Book.{Book}

@@ -6,9 +6,9 @@ use mathlib.Core.Path.{_≡_, refl, ap}
 use mathlib.Core.List.{List, []}
 use lib.IntN.{ℤ, pos}
 use lib.ListN.{getD, replicate}
+use Rattle.basics.specs.Refusals.{outcome}
+use Rattle.basics.proofs.Refusals.{outcome-case}
 use Rattle.netting.specs.Accounts.{debts, balance, Bounded}
-use Rattle.refusals.specs.Refusals.{outcome}
-use Rattle.refusals.proofs.Refusals.{outcome-case}
 use Rattle.payments.proofs.Everybody.{typed-number, typed-words}
 use Rattle.book.specs.declared.Book.{Book}
 use Rattle.book.specs.declared.Done.{Done}

@@ -3,6 +3,8 @@
 use Prim.Native.Nat.{ℕ}
 use mathlib.Core.Path.{_≡_, refl}
 use mathlib.Core.List.{List, [], _∷_}
+use Rattle.basics.specs.Refusals.{refuse}
+use Rattle.basics.proofs.Refusals.{Refuses, is-printed, outcome-refuses}
 use Rattle.calendar.specs.declared.Day.{Day}
 use Rattle.calendar.specs.declared.NextDay.{NextDay}
 use Rattle.calendar.specs.declared.NextDay.the-variants.{At, Never}
@@ -14,9 +16,8 @@ use Rattle.instructions.specs.declared.FetchedLeg.the-variants.{Found, Absent}
 use Rattle.instructions.specs.Legs.{fetchedLeg}
 use Rattle.instructions.specs.Match.{lowestFit}
 use Rattle.ledger.specs.Ledger.{fetched}
-use Rattle.refusals.specs.Refusals.{refuse, noMember}
+use Rattle.refusals.specs.Members.{noMember}
 use Rattle.refusals.specs.Calls.{enterRefusals, cancelRefusalsIn, cancelRefusalsOf, deliverRefusalsIn, deliverRefusalsOf, offerRefusalsIn, offerRefusalsOf, closeRefusalsIn, closeRefusals, againRefusals}
-use Rattle.refusals.proofs.Refusals.{Refuses, is-printed, outcome-refuses}
 use Rattle.refusals.proofs.Named.{fetch-refuses}
 use Rattle.payments.specs.Month.{monthRefusals}
 use Rattle.book.specs.declared.Book.{Book}

@@ -2,9 +2,9 @@
 use Prim.Native.Nat.{ℕ}
 use mathlib.Core.List.{List}
 use lib.ListN.{length}
+use Rattle.basics.specs.Refusals.{answer, outcome}
 use Rattle.closing.specs.Lines.{written}
 use Rattle.reprint.specs.Kept.{linesKept}
-use Rattle.refusals.specs.Refusals.{answer, outcome}
 use Rattle.refusals.specs.Calls.{againRefusals}
 use Rattle.book.specs.declared.Book.{Book}
 use Rattle.book.specs.declared.Closed.{Closed}

@@ -1,6 +1,7 @@
 -- Buy-in: Offer.
 use Prim.Native.Nat.{ℕ}
 use mathlib.Core.List.{List}
+use Rattle.basics.specs.Refusals.{Refusal, answer}
 use Rattle.calendar.specs.declared.Day.{Day}
 use Rattle.ledger.specs.declared.Setup.{Setup}
 use Rattle.ledger.specs.declared.Obligation.{Obligation}
@@ -10,7 +11,6 @@ use Rattle.ledger.specs.Ledger.{fetched, withOfferFor}
 use Rattle.book.specs.declared.Book.{Book}
 use Rattle.book.specs.declared.Done.{Done}
 use Rattle.refusals.specs.Calls.{fetchRefusals, fetchOutcome, offerRefusalsIn, offerRefusalsOf}
-use Rattle.refusals.specs.Refusals.{Refusal, answer}
 use Rattle.book.specs.Book.{withLedger, todayOf}
 use Rattle.book.specs.Instructing.{doneRefused}
 

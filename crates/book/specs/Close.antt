@@ -3,6 +3,7 @@ use Prim.Native.Nat.{ℕ}
 use mathlib.Core.Bool.{true}
 use mathlib.Core.List.{List}
 use lib.ListN.{length}
+use Rattle.basics.specs.Refusals.{answer, outcome}
 use Rattle.calendar.specs.declared.Day.{Day}
 use Rattle.calendar.specs.declared.NextDay.{NextDay}
 use Rattle.calendar.specs.declared.NextDay.the-variants.{At, Never}
@@ -12,7 +13,6 @@ use Rattle.closing.specs.declared.Line.{Line}
 use Rattle.closing.specs.Lines.{written}
 use Rattle.closing.specs.Close.{closeLines, closedLedger}
 use Rattle.reprint.specs.Kept.{keptFrom}
-use Rattle.refusals.specs.Refusals.{answer, outcome}
 use Rattle.refusals.specs.Calls.{closeRefusals}
 use Rattle.book.specs.declared.Book.{Book}
 use Rattle.book.specs.declared.BookDay.{BookDay}

@@ -3,6 +3,7 @@ use Prim.Native.Nat.{ℕ, _<_}
 use mathlib.Core.Bool.{true, not}
 use mathlib.Core.List.{List, [], _∷_}
 use lib.Dec.{eqb}
+use Rattle.basics.specs.Refusals.{Refusal, refuse, answer, outcome}
 use Rattle.calendar.specs.declared.Day.{Day}
 use Rattle.instructions.specs.declared.Leg.{Leg}
 use Rattle.instructions.specs.declared.Legs.{Legs}
@@ -28,7 +29,7 @@ use Rattle.book.specs.declared.Done.{Done}
 use Rattle.book.specs.declared.Cancelled.{Cancelled}
 use Rattle.book.specs.declared.Delivered.{Delivered}
 use Rattle.refusals.specs.Calls.{fetchRefusals, fetchOutcome, enterRefusals, cancelRefusalsIn, cancelRefusalsOf, deliverRefusalsIn, deliverRefusalsOf}
-use Rattle.refusals.specs.Refusals.{Refusal, refuse, answer, outcome, noMember}
+use Rattle.refusals.specs.Members.{noMember}
 use Rattle.book.specs.Book.{withLegs, withLedger, todayOf}
 
 -- ---- Enter

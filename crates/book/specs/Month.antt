@@ -2,9 +2,9 @@
 use Prim.Native.Nat.{ℕ}
 use mathlib.Core.Bool.{false}
 use mathlib.Core.List.{List}
+use Rattle.basics.specs.Refusals.{outcome}
 use Rattle.ledger.specs.Ledger.{clearedLedger}
 use Rattle.payments.specs.Month.{monthNumber, paidOut}
-use Rattle.refusals.specs.Refusals.{outcome}
 use Rattle.book.specs.declared.Book.{Book}
 use Rattle.book.specs.declared.BookDay.{BookDay}
 use Rattle.book.specs.declared.Done.{Done}

@@ -4,6 +4,7 @@ use mathlib.Core.Bool.{false}
 use mathlib.Core.List.{List, [], _∷_}
 use lib.Dec.{ltb, eqb}
 use Rattle.basics.specs.Choice.{pick}
+use Rattle.basics.specs.Refusals.{Refusal, refuse, answer, outcome}
 use Rattle.calendar.specs.declared.Day.{Day}
 use Rattle.calendar.specs.declared.ClosedDays.{ClosedDays}
 use Rattle.calendar.specs.Closed.{day, closedRefused, closedDays}
@@ -15,7 +16,6 @@ use Rattle.reprint.specs.Kept.{keptFrom}
 use Rattle.book.specs.declared.Book.{Book}
 use Rattle.book.specs.declared.Opened.{Opened}
 use Rattle.refusals.specs.Calls.{badFirst}
-use Rattle.refusals.specs.Refusals.{Refusal, refuse, answer, outcome}
 
 -- O3 and O4, Open: the stages by terms 0 and by terms 1
 abbrev pub termsOf : ℕ → Terms

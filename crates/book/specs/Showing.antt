@@ -6,6 +6,7 @@ use mathlib.Core.List.{List, [], _∷_}
 use lib.Dec.{ltb, eqb}
 use lib.IntN.{pos}
 use lib.ListN.{getD}
+use Rattle.basics.specs.Refusals.{Refusal, refuse, answer, outcome}
 use Rattle.calendar.specs.declared.Day.{Day}
 use Rattle.ledger.specs.declared.Obligation.{Obligation}
 use Rattle.ledger.specs.Parts.{noParts}
@@ -16,7 +17,7 @@ use Rattle.book.specs.declared.Balance.{Balance}
 use Rattle.book.specs.declared.Looked.{Looked}
 use Rattle.refusals.specs.Calls.{fetchRefusals, fetchOutcome}
 use Rattle.book.specs.Book.{todayOf}
-use Rattle.refusals.specs.Refusals.{Refusal, refuse, answer, outcome, noMember}
+use Rattle.refusals.specs.Members.{noMember}
 
 -- A14, Refusals, of Status
 unfoldable pub statusRefusals : Book → ℕ → List Refusal

@@ -20,8 +20,8 @@ use ledger::Obligation;
 use ledger::Part;
 use refusals::LAST_MEMBER;
 ghost use mathlib.Core.Path.{_≡_};
+ghost use Rattle.basics.specs.Refusals.{answer};
 ghost use Rattle.ledger.specs.Ledger.{SoundFetched};
-ghost use Rattle.refusals.specs.Refusals.{answer};
 ghost use Rattle.book.specs.Book.{Valid};
 ghost use Rattle.book.specs.Instructing.{obligationOf, withMatch, Matchable, enter, withdraw};
 ghost use Rattle.book.specs.Instructing.{withdrawRefusals, cancelChange, cancel, deliverChange, deliver};
@@ -89,7 +89,7 @@ fn deliver_change(fetched: Fetched, today: Day, quantity: u64) -> Change
     requires { ⌜ SoundFetched fetched ⌝ }
     ensures { λ r. ⌜ r ≡ deliverChange today quantity fetched ⌝ }
 {
-    if refusals::is_outside(1, MOST_QUANTITY, quantity) {
+    if basics::is_outside(1, MOST_QUANTITY, quantity) {
         return Change::refused(2);
     }
     let Fetched::Found(found) = fetched else {

@@ -8,6 +8,8 @@ use lib.Seq.{getD-take}
 use mathlib.Core.List.{List, [], _∷_, _++_, append-nil}
 use Rattle.basics.specs.Lists.{total, tableFrom, countBelow, Every}
 use Rattle.basics.specs.Lists.Every.{nobody, also}
+use Rattle.basics.specs.Refusals.{answer}
+use Rattle.basics.proofs.Refusals.{by-number}
 use Rattle.calendar.specs.declared.Day.{Day}
 use Rattle.calendar.specs.declared.NextDay.the-variants.{At}
 use Rattle.calendar.specs.Closed.{day, lastDay, risesFrom, closedRefused, closedDays, listed, among}
@@ -23,7 +25,6 @@ use Rattle.instructions.specs.Match.{fits, firstFit, lowestFit}
 use Rattle.ledger.specs.Obligations.{withGracePrice, cashOf, isDue, moving}
 use Rattle.ledger.specs.Obligations.{settled as settledSoFar}
 use Rattle.ledger.specs.Ledger.{obligationAt, withObligation, fetched}
-use Rattle.refusals.specs.Refusals.{answer}
 use Rattle.reprint.specs.Kept.{keptFrom}
 use Rattle.book.specs.Book.{withDay, withLast, ageOf}
 use Rattle.book.specs.Open.{openRefusals, opened}
@@ -42,7 +43,6 @@ use Rattle.payments.specs.Month.{overCollected, monthRefusals, paidOut}
 use Rattle.book.specs.declared.Book.{Book}
 use Rattle.book.specs.declared.Done.{Done}
 use Rattle.book.specs.Instructing.{doneRefused}
-use Rattle.refusals.proofs.Refusals.{by-number}
 use Rattle.journal.specs.Calls.{Call}
 use Rattle.journal.specs.Played.{outcome, eventOf, begun}
 use Rattle.examples.specs.Played.{opening, bookAfter, eventsOn, numbersOf, accepted, answersOf, shown, sale, closeAt, daysPass, toBuyIn, compensationPlayed, capOffers, capPlayed, matchPlayed, deliversPlayed, auctionOffers, auctionPlayed, collecting, everybodyPaid, monthPlayed, answerWithLines, answersWithLines, twoSales, againLent, reprintPlayed}

@@ -10,7 +10,9 @@ use lib.ListN.{length, getD, set}
 use lib.Seq.{getD-take, length-take-le}
 use borrow.Author.Tests.{eq-eqb, ne-eqb, ltb-false, not-false}
 use Rattle.basics.specs.Choice.{pick}
+use Rattle.basics.specs.Refusals.{answer}
 use Rattle.basics.proofs.Cases.{pick-case, and-no, or-false}
+use Rattle.basics.proofs.Refusals.{passed, by-number, by-number₂}
 use Rattle.calendar.specs.declared.Day.{Day}
 use Rattle.offers.proofs.Holding.{listed-none, ranked-with}
 use Rattle.instructions.specs.declared.Leg.{Leg}
@@ -32,9 +34,7 @@ use Rattle.ledger.specs.Ledger.{obligationAt, withObligation}
 use Rattle.ledger.proofs.Moving.{part-by, part-moved}
 use Rattle.ledger.proofs.Keeping.{Later, moving-later, wishing-later}
 use Rattle.closing.proofs.Lines.{lines-back, written-fits}
-use Rattle.refusals.specs.Refusals.{answer}
 use Rattle.refusals.specs.Calls.{badRates, enterRefusals, cancelRefusalsOf, closeRefusalsIn}
-use Rattle.refusals.proofs.Refusals.{passed, by-number, by-number₂}
 use Rattle.refusals.proofs.Offering.{offers-few}
 use Rattle.refusals.proofs.Ending.{close-given}
 use Rattle.payments.specs.Month.{payoutsOf, paidOut}

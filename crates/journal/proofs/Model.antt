@@ -8,12 +8,12 @@ use lib.Dec.{eqb, ltb}
 use borrow.Author.Tests.{le-ltb, eqb-true}
 use Rattle.basics.specs.Choice.{pick}
 use Rattle.basics.specs.Lists.{total}
+use Rattle.basics.specs.Refusals.{answer}
+use Rattle.basics.proofs.Refusals.{passed}
 use Rattle.calendar.specs.declared.Day.{Day}
 use Rattle.calendar.specs.Closed.{day, closedDays, closedRefused, listed}
 use Rattle.ledger.proofs.Moving.{part-by}
-use Rattle.refusals.specs.Refusals.{answer}
 use Rattle.refusals.specs.Calls.{badFirst}
-use Rattle.refusals.proofs.Refusals.{passed}
 use Rattle.book.specs.Book.{Valid}
 use Rattle.book.specs.Open.{opened, openRefusals, openRefused, termsOf, freshBook, refusedBook}
 use Rattle.book.proofs.FreshBooks.{fresh-valid, refused-valid, first-good}

@@ -8,6 +8,7 @@ use lib.IntN.{ℤ, pos}
 use lib.ListN.{length, length-map}
 use Rattle.basics.specs.Lists.{sum, table}
 use Rattle.basics.proofs.Tables.{table-length, table-at}
+use Rattle.basics.proofs.Refusals.{passed}
 use Rattle.netting.specs.Accounts.{claim, owed, claims, debts}
 use Rattle.netting.specs.Shares.{floorShare}
 use Rattle.netting.proofs.Debts.{of-accounts}
@@ -15,7 +16,6 @@ use Rattle.netting.proofs.Shared.{shares-total, shares-floor, shares-most}
 use Rattle.payments.specs.Month.{badLists, overCollected, amountsPaid, monthRefusals, payoutsOf}
 use Rattle.payments.proofs.Collected.{good-lists, collected-shareable}
 use Rattle.payments.proofs.Everybody.{empty-pays}
-use Rattle.refusals.proofs.Refusals.{passed}
 use Rattle.book.specs.declared.Book.{Book}
 use Rattle.book.specs.Month.{monthAnswer}
 use Rattle.book.proofs.Paid.{accounts-bounded}

@@ -10,6 +10,8 @@ use lib.Dec.{eqb, ltb}
 use lib.ListN.{length}
 use borrow.Author.Tests.{lt-ltb, le-ltb}
 use Rattle.basics.specs.Choice.{pick}
+use Rattle.basics.specs.Refusals.{answer}
+use Rattle.basics.proofs.Refusals.{by-number}
 use Rattle.calendar.specs.declared.Day.{Day}
 use Rattle.calendar.specs.declared.ClosedDays.{ClosedDays}
 use Rattle.calendar.specs.Closed.{day, closedDays, listed as closedListed}
@@ -21,8 +23,6 @@ use Rattle.instructions.specs.Legs.{entered}
 use Rattle.ledger.specs.declared.Parts.{Parts}
 use Rattle.ledger.specs.Ledger.{obligationAt}
 use Rattle.reprint.specs.Kept.{keptFrom}
-use Rattle.refusals.specs.Refusals.{answer}
-use Rattle.refusals.proofs.Refusals.{by-number}
 use Rattle.book.specs.declared.Book.{Book}
 use Rattle.book.specs.declared.Opened.{Opened}
 use Rattle.book.specs.Book.{ageOf}

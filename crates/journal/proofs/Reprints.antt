@@ -8,13 +8,13 @@ use mathlib.Core.Option.{Option, none, some}
 use lib.Dec.{eqb}
 use lib.ListN.{length, getD, take}
 use Rattle.basics.specs.Choice.{pick}
+use Rattle.basics.proofs.Refusals.{refused-with, done-by}
 use Rattle.closing.specs.declared.Line.{Line}
 use Rattle.closing.specs.Lines.{written, linesRead}
 use Rattle.closing.proofs.Lines.{written-front, written-behind, read-length, read-words}
 use Rattle.reprint.specs.declared.LastClose.{LastClose}
 use Rattle.reprint.specs.Kept.{keptFrom, linesKept}
 use Rattle.reprint.proofs.Keeping.{kept-back}
-use Rattle.refusals.proofs.Refusals.{refused-with, done-by}
 use Rattle.refusals.proofs.Ending.{again-short, again-before, again-after}
 use Rattle.book.specs.declared.Book.{Book}
 use Rattle.book.specs.declared.Closed.{Closed}

@@ -10,15 +10,16 @@ use lib.IntN.{pos}
 use lib.ListN.{getD}
 use borrow.Author.Tests.{ltb-true, lt-ltb, le-ltb, eqb-true, eq-eqb}
 use Rattle.basics.specs.Lists.{table}
+use Rattle.basics.specs.Refusals.{refuse, answer}
 use Rattle.basics.proofs.Cases.{and-true}
 use Rattle.basics.proofs.Tables.{is-table}
+use Rattle.basics.proofs.Refusals.{pass, all-passed, done-by}
 use Rattle.calendar.specs.declared.Day.{Day}
 use Rattle.netting.specs.Accounts.{balance}
 use Rattle.ledger.specs.declared.Parts.{Parts}
 use Rattle.ledger.specs.Ledger.{obligationAt, fetched}
 use Rattle.ledger.proofs.Valid.{below-found}
-use Rattle.refusals.specs.Refusals.{refuse, answer, noMember}
-use Rattle.refusals.proofs.Refusals.{pass, all-passed, done-by}
+use Rattle.refusals.specs.Members.{noMember}
 use Rattle.refusals.proofs.Named.{found-done}
 use Rattle.book.specs.declared.Book.{Book}
 use Rattle.book.specs.declared.Shown.{Shown}

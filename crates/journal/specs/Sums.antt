@@ -7,6 +7,7 @@ use lib.Dec.{eqb}
 use lib.IntN.{ℤ, pos, _+ℤ_, _-ℤ_}
 use Rattle.basics.specs.Choice.{pick}
 use Rattle.basics.specs.Lists.{total, table}
+use Rattle.basics.specs.Refusals.{answer, outcome}
 use Rattle.calendar.specs.declared.Day.{Day}
 use Rattle.calendar.specs.declared.ClosedDays.{ClosedDays}
 use Rattle.calendar.specs.declared.NextDay.{NextDay}
@@ -21,7 +22,6 @@ use Rattle.ledger.specs.Parts.{everyPart}
 use Rattle.closing.specs.declared.Line.{Line}
 use Rattle.closing.specs.Lines.{penaltyKind}
 use Rattle.payments.specs.Month.{amountsPaid}
-use Rattle.refusals.specs.Refusals.{answer, outcome}
 use Rattle.book.specs.Open.{openRefusals, termsOf}
 use Rattle.journal.specs.Calls.{Opening, Event}
 use Rattle.journal.specs.Facts.{Instructed, instructs, isEnd, reported, facts, movedBy}

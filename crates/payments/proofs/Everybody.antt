@@ -6,13 +6,13 @@ use mathlib.Core.Bool.{Bool}
 use mathlib.Core.List.{List, [], _∷_}
 use lib.IntN.{ℤ, pos}
 use lib.ListN.{length, length-map}
+use Rattle.basics.specs.Refusals.{outcome}
 use Rattle.netting.specs.Accounts.{memberCount, claim, owed, claims, debts, balance}
 use Rattle.netting.specs.Shares.{shares}
 use Rattle.netting.proofs.Debts.{owed-claimed}
 use Rattle.netting.proofs.Shared.{shares-whole}
 use Rattle.payments.specs.Month.{amountsPaid, monthRefusals, monthNumber, payoutsOf, paidOut}
 use Rattle.payments.proofs.Collected.{over-none, empty-over}
-use Rattle.refusals.specs.Refusals.{outcome}
 
 -- M12, Month: the sum of what is owed is the sum of the claims, so an empty Month pays every claim
 pub empty-pays : (accounts : List ℤ) → length accounts ≡ memberCount → balance accounts ≡ pos 0 → payoutsOf accounts [] ≡ claims accounts

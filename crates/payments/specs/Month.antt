@@ -6,9 +6,9 @@ use lib.Dec.{eqb, ltb}
 use lib.IntN.{ℤ}
 use lib.ListN.{length}
 use Rattle.basics.specs.Lists.{sum}
+use Rattle.basics.specs.Refusals.{Refusal, refuse, answer, outcome}
 use Rattle.netting.specs.Accounts.{memberCount, owed, claims, debts}
 use Rattle.netting.specs.Shares.{shares}
-use Rattle.refusals.specs.Refusals.{Refusal, refuse, answer, outcome}
 
 -- R5, Refusals, of Month: a list of this many collected amounts is neither empty nor one of 32
 abbrev pub badAmounts : ℕ → Bool

@@ -6,14 +6,14 @@ use mathlib.Core.List.{[]}
 use lib.Dec.{ltb}
 use borrow.Author.Tests.{ltb-false, lt-ltb, le-ltb, not-false}
 use Rattle.basics.specs.Lists.{Every}
+use Rattle.basics.specs.Refusals.{answer, outside}
 use Rattle.basics.proofs.Cases.{or-false}
+use Rattle.basics.proofs.Refusals.{pass, stop, passed, all-passed, refused-ahead, passed-ahead, ahead-passed, is-printed}
 use Rattle.calendar.specs.declared.Day.{Day}
 use Rattle.calendar.specs.declared.NextDay.{NextDay}
 use Rattle.calendar.specs.declared.NextDay.the-variants.{At, Never}
 use Rattle.amounts.specs.Amounts.{mostClosePrice, mostRate}
-use Rattle.refusals.specs.Refusals.{answer, outside}
 use Rattle.refusals.specs.Calls.{fewestWords, badRates, closeRefusalsIn, closeRefusals, againRefusals}
-use Rattle.refusals.proofs.Refusals.{pass, stop, passed, all-passed, refused-ahead, passed-ahead, ahead-passed, is-printed}
 
 module _ (price rate words : ℕ) where
   -- none of those from the input has the number 0

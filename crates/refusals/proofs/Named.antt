@@ -3,15 +3,15 @@ use Prim.Native.Nat.{ℕ, _<_}
 use mathlib.Core.Path.{_≡_, refl, sym, ap, _∙_}
 use mathlib.Core.Bool.{true, false≢true}
 use mathlib.Core.List.{List, []}
+use Rattle.basics.specs.Refusals.{Refusal, answer, outcome}
+use Rattle.basics.proofs.Refusals.{pass, stop, passed, done-by, refused-with, by-number₂, refused-ahead, passed-ahead, ahead-passed, risingFrom, is-printed, Refuses, outcome-refuses}
 use Rattle.ledger.specs.declared.Obligation.{Obligation}
 use Rattle.ledger.specs.declared.Ledger.{Ledger}
 use Rattle.ledger.specs.declared.Fetched.{Fetched}
 use Rattle.ledger.specs.declared.Fetched.the-variants.{Found, Absent}
 use Rattle.ledger.specs.Ledger.{obligationAt, fetched}
 use Rattle.ledger.proofs.Valid.{fetched-case}
-use Rattle.refusals.specs.Refusals.{Refusal, answer, outcome}
 use Rattle.refusals.specs.Calls.{fetchRefusals, fetchOutcome}
-use Rattle.refusals.proofs.Refusals.{pass, stop, passed, done-by, refused-with, by-number₂, refused-ahead, passed-ahead, ahead-passed, risingFrom, is-printed, Refuses, outcome-refuses}
 
 -- ---- the answer number
 module _ (input : List Refusal) (on : Obligation → List Refusal) where

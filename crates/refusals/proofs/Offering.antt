@@ -3,15 +3,15 @@ use Prim.Native.Nat.{ℕ, _≤_, _<_}
 use mathlib.Core.Path.{_≡_, refl}
 use mathlib.Core.Bool.{false}
 use borrow.Author.Tests.{ltb-false, leb-false}
+use Rattle.basics.specs.Refusals.{answer, outside}
 use Rattle.basics.proofs.Cases.{or-false}
+use Rattle.basics.proofs.Refusals.{passed}
 use Rattle.calendar.specs.declared.Day.{Day}
 use Rattle.amounts.specs.Amounts.{mostQuantity, mostOfferPrice}
 use Rattle.ledger.specs.declared.Terms.{Terms}
 use Rattle.ledger.specs.declared.Obligation.{Obligation}
 use Rattle.ledger.specs.Ledger.{mostSupplier}
-use Rattle.refusals.specs.Refusals.{answer, outside}
 use Rattle.refusals.specs.Calls.{offerRefusalsIn, offerRefusalsOf}
-use Rattle.refusals.proofs.Refusals.{passed}
 
 -- a number that is not outside of two limits lies within them
 pub within : (low high x : ℕ) → outside low high x ≡ false → (low ≤ x) × (x ≤ high)

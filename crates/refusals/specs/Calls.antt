@@ -4,6 +4,7 @@ use Prim.Native.Nat.{ℕ}
 use mathlib.Core.Bool.{Bool, true, false, _||_, not}
 use mathlib.Core.List.{List, [], _∷_, _++_}
 use lib.Dec.{ltb, leb, eqb}
+use Rattle.basics.specs.Refusals.{Refusal, refuse, answer, outcome, outside}
 use Rattle.calendar.specs.declared.Day.{Day}
 use Rattle.calendar.specs.declared.ClosedDays.{ClosedDays}
 use Rattle.calendar.specs.declared.NextDay.{NextDay}
@@ -20,7 +21,7 @@ use Rattle.ledger.specs.declared.Fetched.{Fetched}
 use Rattle.ledger.specs.declared.Fetched.the-variants.{Found, Absent}
 use Rattle.ledger.specs.Obligations.{latestDay, isParty, hasWished, inBuyIn}
 use Rattle.ledger.specs.Ledger.{mostSupplier}
-use Rattle.refusals.specs.Refusals.{Refusal, refuse, answer, outcome, outside, noMember}
+use Rattle.refusals.specs.Members.{noMember}
 
 -- ---- calls that name an obligation
 -- A4 and R13, Refusals: the obligation is fetched after the refusals of the input. If it is absent, 13 holds, and there

@@ -1,2 +1,2 @@
-pub mod Refusals
+pub mod Members
 pub mod Calls

@@ -19,9 +19,9 @@ use netting::MEMBER_COUNT;
 use offers::MOST_OFFERS;
 ghost use mathlib.Core.Path.{_≡_};
 ghost use Prim.Native.Nat.{_≤_};
+ghost use Rattle.basics.specs.Refusals.{answer};
 ghost use Rattle.amounts.specs.Amounts.{mostOfferPrice, mostClosePrice};
 ghost use Rattle.instructions.specs.Legs.{legOf};
-ghost use Rattle.refusals.specs.Refusals.{outside, answer};
 ghost use Rattle.refusals.specs.Calls.{badFirst, badParties, badDay, enterRefusals, cancelRefusalsOf};
 ghost use Rattle.refusals.specs.Calls.{deliverRefusalsOf, offerRefusalsIn, offerRefusalsOf, badRates, isShort, closeRefusalsIn, againRefusals};
 
@@ -30,13 +30,6 @@ pub const LAST_MEMBER: u64 = MEMBER_COUNT as u64 - 1;
 
 // The fewest words of the list of a Close or an Again; `fewestWords` in specs/.
 const FEWEST_WORDS: usize = 1_152;
-
-// Whether a number is below `low` or above `high`.
-pub fn is_outside(low: u64, high: u64, x: u64) -> bool
-    ensures { λ r. ⌜ r ≡ outside low high x ⌝ }
-{
-    x < low || high < x
-}
 
 // Whether the members or the side of an instruction are refused.
 pub fn are_bad_parties(member: u64, other: u64, side: u64) -> bool
@@ -66,10 +59,10 @@ pub fn enter_answer(closed_days: ClosedDays, today: Day, legs: usize, asked: Ins
     if are_bad_parties(asked.member, asked.other, asked.side) {
         return 1;
     }
-    if is_outside(1, MOST_QUANTITY, asked.quantity) {
+    if basics::is_outside(1, MOST_QUANTITY, asked.quantity) {
         return 2;
     }
-    if is_outside(1, MOST_AMOUNT, asked.amount) {
+    if basics::is_outside(1, MOST_AMOUNT, asked.amount) {
         return 3;
     }
     if is_bad_day(closed_days, today, asked.day) {
@@ -114,10 +107,10 @@ pub fn offer_answer(supplier: u64, quantity: u64, price: u64) -> u64
     if MOST_SUPPLIER < supplier {
         return 1;
     }
-    if is_outside(1, MOST_QUANTITY, quantity) {
+    if basics::is_outside(1, MOST_QUANTITY, quantity) {
         return 2;
     }
-    if is_outside(1, MOST_OFFER_PRICE, price) {
+    if basics::is_outside(1, MOST_OFFER_PRICE, price) {
         return 3;
     }
     0
@@ -154,7 +147,7 @@ pub fn offer_answer_of(
 fn are_bad_rates(price: u64, rate: u64) -> bool
     ensures { λ r. ⌜ r ≡ badRates price rate ⌝ }
 {
-    is_outside(1, MOST_CLOSE_PRICE, price) || MOST_RATE < rate
+    basics::is_outside(1, MOST_CLOSE_PRICE, price) || MOST_RATE < rate
 }
 
 // Whether a list is too short for the lines of a Close.

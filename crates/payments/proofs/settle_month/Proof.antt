@@ -6,10 +6,10 @@ use borrow.Author.Needs.{needs}
 use Rattle.netting.specs.Shares.{shares}
 use Rattle.netting.specs.Accounts.{claims}
 use Rattle.basics.proofs.Cases.{length-mapped}
+use Rattle.basics.proofs.Refusals.{pass, stop, all-passed, refused-by, done-by}
 use Rattle.basics.specs.Lists.{sum}
 use Rattle.payments.proofs.Collected.{good-lists, over-paid, collected-fits, collected-shareable}
 use Rattle.payments.specs.Month.{overCollected, monthRefusals, paidOut}
-use Rattle.refusals.proofs.Refusals.{pass, stop, all-passed, refused-by, done-by}
 use Rattle.payments.proofs.settle_month.Statement.{statement}
 use Rattle.payments.proofs.settle_month.Tie as tie
 

@@ -1,7 +1,7 @@
 -- `again_answer` meets its contract.
 use mathlib.Core.Path.{sym, _∙_}
 use borrow.Author.Needs.{needs}
-use Rattle.refusals.proofs.Refusals.{pass, stop, all-passed}
+use Rattle.basics.proofs.Refusals.{pass, stop, all-passed}
 use Rattle.refusals.specs.Calls.{againRefusals}
 use Rattle.refusals.proofs.again_answer.Statement.{statement}
 use Rattle.refusals.proofs.again_answer.Tie as tie

@@ -3,8 +3,8 @@ use mathlib.Core.Path.{sym, _∙_}
 use mathlib.Core.Logic.{⊎-elim}
 use borrow.Author.Needs.{needs}
 use borrow.Author.Tests.{eq-eqb, ne-eqb}
+use Rattle.basics.proofs.Refusals.{pass, stop, all-passed}
 use Rattle.refusals.specs.Calls.{cancelRefusalsOf}
-use Rattle.refusals.proofs.Refusals.{pass, stop, all-passed}
 use Rattle.refusals.proofs.cancel_answer.Statement.{statement}
 use Rattle.refusals.proofs.cancel_answer.Tie as tie
 

@@ -1,7 +1,7 @@
 -- `close_answer` meets its contract.
 use mathlib.Core.Path.{sym, _∙_}
 use borrow.Author.Needs.{needs}
-use Rattle.refusals.proofs.Refusals.{pass, stop, all-passed}
+use Rattle.basics.proofs.Refusals.{pass, stop, all-passed}
 use Rattle.refusals.specs.Calls.{closeRefusalsIn}
 use Rattle.refusals.proofs.close_answer.Statement.{statement}
 use Rattle.refusals.proofs.close_answer.Tie as tie

@@ -2,8 +2,8 @@
 use mathlib.Core.Path.{sym, _∙_}
 use borrow.Author.Needs.{needs}
 use borrow.Author.Tests.{le-leb, lt-leb}
+use Rattle.basics.proofs.Refusals.{pass, stop, all-passed}
 use Rattle.refusals.specs.Calls.{enterRefusals}
-use Rattle.refusals.proofs.Refusals.{pass, stop, all-passed}
 use Rattle.refusals.proofs.enter_answer.Statement.{statement}
 use Rattle.refusals.proofs.enter_answer.Tie as tie
 

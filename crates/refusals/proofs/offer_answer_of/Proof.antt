@@ -3,8 +3,8 @@ use mathlib.Core.Path.{sym, _∙_}
 use mathlib.Core.Logic.{⊎-elim}
 use borrow.Author.Needs.{needs}
 use borrow.Author.Tests.{lt-ltb, le-ltb, le-leb, lt-leb, eq-eqb, ne-eqb}
+use Rattle.basics.proofs.Refusals.{pass, stop, all-passed}
 use Rattle.refusals.specs.Calls.{offerRefusalsOf}
-use Rattle.refusals.proofs.Refusals.{pass, stop, all-passed}
 use Rattle.refusals.proofs.offer_answer_of.Statement.{statement}
 use Rattle.refusals.proofs.offer_answer_of.Tie as tie
 

@@ -5,9 +5,9 @@ use lib.IntN.{ℤ, pos}
 use lib.ListN.{getD}
 use borrow.Author.Needs.{needs}
 use borrow.Author.Tests.{lt-ltb, le-ltb}
+use Rattle.basics.proofs.Refusals.{pass, stop, all-passed, refused-by, done-by}
 use Rattle.book.specs.Showing.{account, accountRefused}
 use Rattle.book.proofs.Book.account.Statement.{statement}
-use Rattle.refusals.proofs.Refusals.{pass, stop, all-passed, refused-by, done-by}
 use Rattle.netting.proofs.Signed.{read-is}
 use Rattle.book.proofs.Book.account.Tie as tie
 

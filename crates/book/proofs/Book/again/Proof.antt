@@ -2,7 +2,7 @@
 use Prim.Native.Nat.{ℕ}
 use mathlib.Core.Path.{sym, ap, _∙_}
 use borrow.Author.Needs.{needs}
-use Rattle.refusals.proofs.Refusals.{refused-with, done-by}
+use Rattle.basics.proofs.Refusals.{refused-with, done-by}
 use Rattle.refusals.proofs.Ending.{again-given}
 use Rattle.book.specs.Close.{closeRefused}
 use Rattle.book.specs.Again.{againDone, again, againWords}

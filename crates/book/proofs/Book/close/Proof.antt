@@ -3,8 +3,8 @@ use native.Mathlib.Omega.{arith}
 use mathlib.Core.Path.{_≡_, sym, _∙_}
 use lib.ListN.{length}
 use borrow.Author.Needs.{needs}
+use Rattle.basics.specs.Refusals.{answer}
 use Rattle.calendar.specs.declared.NextDay.the-variants.{At}
-use Rattle.refusals.specs.Refusals.{answer}
 use Rattle.refusals.specs.Calls.{closeRefusalsIn}
 use Rattle.book.specs.Close.{nextDay}
 use Rattle.book.proofs.Ended.{refused-end, done-closable, done-keepable, done-end}

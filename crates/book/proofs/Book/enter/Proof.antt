@@ -3,12 +3,12 @@ use Prim.Native.Nat.{ℕ}
 use native.Mathlib.Omega.{arith}
 use mathlib.Core.Path.{_≡_, sym, ap, subst⁻¹, _∙_}
 use borrow.Author.Needs.{needs}
+use Rattle.basics.specs.Refusals.{outcome}
 use Rattle.instructions.specs.declared.Instruction.{Instruction}
 use Rattle.instructions.specs.declared.Entry.{Entry}
 use Rattle.instructions.specs.Legs.{legOf}
 use Rattle.instructions.specs.Match.{lowestFit}
 use Rattle.instructions.specs.Entry.{Enterable}
-use Rattle.refusals.specs.Refusals.{outcome}
 use Rattle.book.specs.declared.Entered.{Entered}
 use Rattle.book.specs.Book.{withLegs, withLedger}
 use Rattle.book.specs.Instructing.{Matchable, enterReturns, enteredBy, enterRefused, enter}

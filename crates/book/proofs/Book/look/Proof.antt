@@ -4,8 +4,8 @@ use native.Mathlib.Omega.{arith}
 use mathlib.Core.Path.{refl, sym, _∙_, _≡_}
 use borrow.Author.Needs.{needs}
 use borrow.Author.Tests.{lt-ltb, le-ltb}
+use Rattle.basics.proofs.Refusals.{pass, stop, all-passed}
 use Rattle.book.proofs.Book.look.Statement.{statement}
-use Rattle.refusals.proofs.Refusals.{pass, stop, all-passed}
 use Rattle.book.proofs.Book.look.Tie as tie
 
 apart : _≡_ {A = ℕ} 1 0 → ⊥

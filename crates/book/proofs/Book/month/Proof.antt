@@ -1,12 +1,12 @@
 -- `month` meets its contract.
 use mathlib.Core.Path.{refl, sym, subst, _∙_}
 use borrow.Author.Needs.{needs}
+use Rattle.basics.proofs.Refusals.{done-by, refused-with}
 use Rattle.book.proofs.Paid.{accounts-bounded, paid-valid}
 use Rattle.book.specs.Month.{paidDay, month}
 use Rattle.book.specs.Instructing.{doneRefused}
 use Rattle.book.specs.Book.{withDay, Valid}
 use Rattle.book.specs.declared.Book.{Book}
-use Rattle.refusals.proofs.Refusals.{done-by, refused-with}
 use Rattle.ledger.specs.declared.Ledger.{Ledger}
 use Rattle.book.proofs.Book.month.Statement.{statement}
 use Rattle.book.proofs.Book.month.Tie as tie

@@ -4,12 +4,12 @@ use native.Mathlib.Omega.{arith}
 use mathlib.Core.Path.{_≡_, refl, sym, ap, ap₂, _∙_}
 use mathlib.Core.Logic.{⊎-elim}
 use borrow.Author.Needs.{needs}
+use Rattle.basics.specs.Refusals.{answer}
+use Rattle.basics.proofs.Refusals.{refused-with, done-by}
 use Rattle.offers.specs.declared.Offers.{Offers}
 use Rattle.ledger.specs.Ledger.{fetched, obligationAt}
 use Rattle.ledger.proofs.Valid.{fetched-sound}
-use Rattle.refusals.specs.Refusals.{answer}
 use Rattle.refusals.specs.Calls.{fetchRefusals, offerRefusalsIn}
-use Rattle.refusals.proofs.Refusals.{refused-with, done-by}
 use Rattle.refusals.proofs.Offering.{Offered, offered, offers-few}
 use Rattle.refusals.proofs.Named.{fetch-passed, fetch-number}
 use Rattle.book.specs.declared.Done.{Done}

@@ -3,13 +3,13 @@ use Prim.Native.Nat.{ℕ}
 use mathlib.Core.Path.{refl, ap, sym, _∙_}
 use borrow.Author.Needs.{needs}
 use borrow.Author.Tests.{lt-ltb, le-ltb}
+use Rattle.basics.proofs.Refusals.{pass, stop, all-passed, refused-by, done-by}
 use Rattle.book.specs.Open.{opened, openRefusals, openRefused, freshBook}
 use Rattle.book.specs.declared.Book.{Book}
 use Rattle.book.specs.declared.Opened.{Opened}
 use Rattle.calendar.specs.declared.ClosedDays.{ClosedDays}
 use Rattle.book.proofs.Book.open.Statement.{statement}
 use Rattle.book.proofs.FreshBooks.{refused-valid, closed-short, fresh-valid, first-good}
-use Rattle.refusals.proofs.Refusals.{pass, stop, all-passed, refused-by, done-by}
 use Rattle.book.proofs.Book.open.Tie as tie
 
 abbrev opened-with : ℕ → Book → Opened

@@ -2,9 +2,9 @@
 use mathlib.Core.Path.{refl, sym, _∙_}
 use mathlib.Core.List.{[]}
 use borrow.Author.Needs.{needs}
+use Rattle.basics.proofs.Refusals.{all-passed}
 use Rattle.book.specs.Showing.{statusRefused, statusDone, status}
 use Rattle.book.proofs.Book.status.Statement.{statement}
-use Rattle.refusals.proofs.Refusals.{all-passed}
 use Rattle.refusals.proofs.Named.{absent-refused, found-done}
 use Rattle.book.proofs.Book.status.Tie as tie
 

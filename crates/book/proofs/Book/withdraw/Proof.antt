@@ -5,13 +5,13 @@ use mathlib.Core.Path.{_≡_, refl, sym, ap, ap₂, _∙_}
 use mathlib.Core.Bool.{false≢true}
 use mathlib.Core.Logic.{⊎-elim}
 use borrow.Author.Needs.{needs}
+use Rattle.basics.specs.Refusals.{answer}
+use Rattle.basics.proofs.Refusals.{passed, refused-with, done-by}
 use Rattle.instructions.specs.declared.Legs.{Legs}
 use Rattle.instructions.specs.declared.FetchedLeg.{FetchedLeg}
 use Rattle.instructions.specs.declared.FetchedLeg.the-variants.{Found, Absent}
 use Rattle.instructions.specs.Legs.{mostLegs, fetchedLeg}
 use Rattle.instructions.proofs.Fetching.{fetched-leg-case}
-use Rattle.refusals.specs.Refusals.{answer}
-use Rattle.refusals.proofs.Refusals.{passed, refused-with, done-by}
 use Rattle.book.specs.declared.Book.{Book}
 use Rattle.book.specs.declared.Done.{Done}
 use Rattle.book.specs.Book.{withLegs}

@@ -1,8 +1,8 @@
 -- `offer_number` meets its contract.
 use mathlib.Core.Path.{refl, sym, ap, _∙_}
 use borrow.Author.Needs.{needs}
+use Rattle.basics.specs.Refusals.{answer}
 use Rattle.calendar.specs.declared.ClearingDays.{ClearingDays}
-use Rattle.refusals.specs.Refusals.{answer}
 use Rattle.refusals.specs.Calls.{offerRefusalsIn, offerRefusalsOf}
 use Rattle.refusals.proofs.Offering.{offered}
 use Rattle.refusals.proofs.Named.{input-answer, absent-answer, found-answer}

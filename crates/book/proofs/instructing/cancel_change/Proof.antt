@@ -3,8 +3,8 @@ use native.Mathlib.Omega.{arith}
 use mathlib.Core.Path.{refl, sym, _∙_}
 use borrow.Author.Needs.{needs}
 use borrow.Author.Tests.{lt-ltb, le-ltb}
+use Rattle.basics.proofs.Refusals.{pass, stop, all-passed}
 use Rattle.ledger.specs.Ledger.{refusedChange}
-use Rattle.refusals.proofs.Refusals.{pass, stop, all-passed}
 use Rattle.refusals.proofs.Named.{input-refused, absent-refused, found-refused, found-done}
 use Rattle.book.specs.Instructing.{cancelChange}
 use Rattle.book.proofs.instructing.cancel_change.Statement.{statement}

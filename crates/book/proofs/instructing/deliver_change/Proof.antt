@@ -3,10 +3,10 @@ use native.Mathlib.Omega.{arith}
 use mathlib.Core.Path.{refl, sym, _∙_}
 use borrow.Author.Needs.{needs}
 use borrow.Author.Tests.{ltb-false}
+use Rattle.basics.proofs.Refusals.{pass, stop, passed, all-passed}
 use Rattle.ledger.specs.Obligations.{Takes}
 use Rattle.ledger.specs.Ledger.{refusedChange}
 use Rattle.refusals.specs.Calls.{deliverRefusalsOf}
-use Rattle.refusals.proofs.Refusals.{pass, stop, passed, all-passed}
 use Rattle.refusals.proofs.Named.{input-refused, absent-refused, found-refused, found-done}
 use Rattle.book.specs.Instructing.{deliverChange}
 use Rattle.book.proofs.instructing.deliver_change.Statement.{statement}

@@ -4,10 +4,11 @@ use mathlib.Core.Path.{_≡_, refl, sym, ap, _∙_}
 use mathlib.Core.Bool.{true}
 use borrow.Author.Needs.{needs}
 use borrow.Author.Tests.{lt-ltb, le-ltb, eq-eqb, ne-eqb}
+use Rattle.basics.specs.Refusals.{answer}
+use Rattle.basics.proofs.Refusals.{pass, stop, all-passed}
 use Rattle.instructions.specs.declared.FetchedLeg.{FetchedLeg}
 use Rattle.instructions.specs.declared.FetchedLeg.the-variants.{Found, Absent}
-use Rattle.refusals.specs.Refusals.{answer, noMember}
-use Rattle.refusals.proofs.Refusals.{pass, stop, all-passed}
+use Rattle.refusals.specs.Members.{noMember}
 use Rattle.book.specs.Instructing.{withdrawRefusals}
 use Rattle.book.proofs.instructing.withdraw_answer.Statement.{statement}
 use Rattle.book.proofs.instructing.withdraw_answer.Tie as tie

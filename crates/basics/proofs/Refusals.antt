@@ -7,13 +7,13 @@ use mathlib.Core.Logic.{_↔_}
 use mathlib.Core.List.{List, [], _∷_, _++_, List·Memᴰ, List·Memᴰ·head, List·Memᴰ·tail}
 use lib.Dec.{eqb, ltb}
 use borrow.Author.Tests.{eqb-true, eqb-false, ne-eqb, ltb-true}
 use Rattle.basics.specs.Choice.{pick}
 use Rattle.basics.specs.Lists.{Every, Sorted}
 use Rattle.basics.specs.Lists.Every.{nobody, also}
 use Rattle.basics.specs.Lists.Sorted.{empty, ahead}
+use Rattle.basics.specs.Refusals.{Refusal, refuse, answer, outcome}
 use Rattle.basics.proofs.Cases.{pick-case, and-true}
 use Rattle.basics.proofs.Everywhere.{every-map, every-member}
-use Rattle.refusals.specs.Refusals.{Refusal, refuse, answer, outcome}
 
 -- ---- reading a list of refusals from the front
 -- a condition that does not hold is passed

@@ -1,7 +1,7 @@
 -- `is_outside` meets its contract.
 use borrow.Author.Tests.{lt-ltb, le-ltb}
-use Rattle.refusals.proofs.is_outside.Statement.{statement}
-use Rattle.refusals.proofs.is_outside.Tie as tie
+use Rattle.basics.proofs.is_outside.Statement.{statement}
+use Rattle.basics.proofs.is_outside.Tie as tie
 
 returns : tie.Need-returns
 returns c = rw (lt-ltb _ _ (c .if1 .taken))
