@@ -33,3 +33,14 @@ sets-front l vs h = rw (sets-eq vs l 0 (omega arith)) (take-append-seam vs (drop
 -- after values are stored at the front, the list is these values and then what was behind them
 pub sets-ahead : {A : Type 0} (l vs : List A) → length vs ≤ length l → sets l 0 vs ≡ vs ++ drop (length vs) l
 sets-ahead l vs h = sets-eq vs l 0 (omega arith) ∙ ap (λ (k : ℕ). vs ++ drop k l) (zero-add (length vs))
+
+-- six stores, one behind the other, store six values
+pub six-stores : (ws : List ℕ) (k u v w x y z : ℕ) →
+    set (set (set (set (set (set ws k u) (k + 1) v) (k + 2) w) (k + 3) x) (k + 4) y) (k + 5) z ≡ sets ws k (u ∷ v ∷ w ∷ x ∷ y ∷ z ∷ [])
+six-stores ws k u v w x y z =
+    let e1 : k + 1 ≡ suc k = omega arith in
+    let e2 : k + 2 ≡ suc (suc k) = omega arith in
+    let e3 : k + 3 ≡ suc (suc (suc k)) = omega arith in
+    let e4 : k + 4 ≡ suc (suc (suc (suc k))) = omega arith in
+    let e5 : k + 5 ≡ suc (suc (suc (suc (suc k)))) = omega arith in
+    rw (e1, e2, e3, e4, e5)

@@ -14,17 +14,6 @@ use Rattle.closing.specs.declared.Line.{Line}
 use Rattle.closing.specs.declared.Closing.{Closing}
 use Rattle.closing.specs.Lines.{wordsOf, flat, written, lineAt, linesRead, Made, nothing, one, then, Room, Wrote}
 
--- six stores write the words of a line
-pub six-stores : (ws : List ℕ) (k : ℕ) (l : Line) →
-    set (set (set (set (set (set ws k (l .kind)) (k + 1) (l .obligation)) (k + 2) (l .quantity)) (k + 3) (l .cents)) (k + 4) (l .supplier)) (k + 5) (l .price) ≡ sets ws k (wordsOf l)
-six-stores ws k l =
-    let e1 : k + 1 ≡ suc k = omega arith in
-    let e2 : k + 2 ≡ suc (suc k) = omega arith in
-    let e3 : k + 3 ≡ suc (suc (suc k)) = omega arith in
-    let e4 : k + 4 ≡ suc (suc (suc (suc k))) = omega arith in
-    let e5 : k + 5 ≡ suc (suc (suc (suc (suc k)))) = omega arith in
-    rw (e1, e2, e3, e4, e5)
-
 pub flat-append : (ls ms : List Line) → flat (ls ++ ms) ≡ flat ls ++ flat ms
 unfolding flat
 flat-append [] ms = refl

@@ -3,7 +3,7 @@ use Prim.Native.Nat.{_*_}
 use native.Mathlib.Omega.{arith}
 use lib.ListN.{length-set}
 use borrow.Author.Needs.{needs}
-use Rattle.closing.proofs.Lines.{six-stores}
+use Rattle.basics.proofs.Stores.{six-stores}
 use Rattle.closing.proofs.put_line.Statement.{statement}
 use Rattle.closing.proofs.put_line.Tie as tie
 
@@ -65,7 +65,7 @@ same-length : tie.Need-same-length
 same-length c = search needs
 
 returns : tie.Need-returns
-returns c = six-stores (c .args .lines .now) (6 * c .args .count) (c .args .line)
+returns c = six-stores (c .args .lines .now) (6 * c .args .count) _ _ _ _ _ _
 
 pub put-line-spec : {M : Type 1} → statement M
 put-line-spec =

@@ -1,0 +1,37 @@
+-- The years of the calendar: leap years, the months, the first day of a year, and the day of a date.
+use Prim.Native.Nat.{ℕ, zero, suc, _+_, _-_, _%_}
+use mathlib.Core.Bool.{Bool, _&&_, _||_, not}
+use mathlib.Core.List.{List, [], _∷_}
+use lib.Dec.{eqb}
+use lib.ListN.{take}
+use Rattle.basics.specs.Choice.{pick}
+use Rattle.basics.specs.Lists.{sum}
+
+-- a number divides a year
+abbrev pub divides : ℕ → ℕ → Bool
+divides n y = eqb (y % n) 0
+
+-- H2, Closed days: 4 divides a leap year, and if 100 divides it, 400 does too
+unfoldable pub isLeap : ℕ → Bool
+isLeap y = divides 4 y && (not (divides 100 y) || divides 400 y)
+
+-- H3, Closed days: how many days each month of a year has, from January to December
+unfoldable pub monthsOf : ℕ → List ℕ
+monthsOf y = 31 ∷ pick (isLeap y) 29 28 ∷ 31 ∷ 30 ∷ 31 ∷ 30 ∷ 31 ∷ 31 ∷ 30 ∷ 31 ∷ 30 ∷ 31 ∷ []
+
+-- D2, Days and units: the days have their numbers from the first day of this year on
+abbrev pub firstYear : ℕ
+firstYear = 2000
+
+-- H4, Closed days: how many days the first n years have, from 2000 on
+unfoldable pub daysOfYears : ℕ → ℕ
+daysOfYears zero = 0
+daysOfYears (suc n) = daysOfYears n + sum (monthsOf (firstYear + n))
+
+-- H4, Closed days: the first day of a year, which comes after all days of the years before it
+unfoldable pub newYear : ℕ → ℕ
+newYear y = daysOfYears (y - firstYear)
+
+-- H4, Closed days: the day of a date, which is given by the year, the number of the month and the day of the month
+unfoldable pub dateOf : ℕ → ℕ → ℕ → ℕ
+dateOf y month d = newYear y + sum (take (month - 1) (monthsOf y)) + (d - 1)

@@ -1,0 +1,180 @@
+// The closed days of TARGET. A book is opened with a list of closed days, and the call Target writes this list for a few
+// years. It takes no book.
+ghost use mathlib.Core.Path.{_≡_};
+ghost use Prim.Native.Nat.{_+_, _*_, _≤_};
+ghost use lib.ListN.{length};
+ghost use lib.Seq.{sets};
+ghost use Rattle.basics.specs.Refusals.{answer};
+ghost use Rattle.holidays.specs.Years.{firstYear, newYear, dateOf};
+ghost use Rattle.holidays.specs.Easter.{golden, plainEpact, epact, fullMoon, easter};
+ghost use Rattle.holidays.specs.Target.{Taken, closedIn, closedFrom, atFront, lastYear, tooFew, badYears};
+ghost use Rattle.holidays.specs.Target.{targetRefusals, target, targetWords};
+
+// The year in which day 0 is 1 January; `firstYear` in specs/.
+const FIRST_YEAR: u64 = 2_000;
+
+// The last year that Target takes; `lastYear` in specs/.
+const LAST_YEAR: u64 = 2_178;
+
+// The most years that Target takes; `mostYears` in specs/.
+const MOST_YEARS: u64 = 8;
+
+// A year has this many closed days.
+const DAYS_OF_YEAR: usize = 6;
+
+// The answer of Target.
+pub struct DaysWritten {
+    pub answer: u64,
+    // How many days were written.
+    pub count: usize,
+}
+
+// The first day of a year. There is one leap year in four, and of the hundredth years only one in four. Before 2000 there
+// were 484 leap years by this rule.
+fn new_year(year: u64) -> u64
+    requires { ⌜ (firstYear ≤ year) × (year ≤ lastYear + 1) ⌝ }
+    ensures { λ r. ⌜ r ≡ newYear year ⌝ }
+{
+    let before = year - 1;
+    365 * (year - FIRST_YEAR) + before / 4 + before / 400 - before / 100 - 484
+}
+
+// 1 March of a year. From this day on every year has 306 days.
+fn first_of_march(year: u64) -> u64
+    requires { ⌜ Taken year ⌝ }
+    ensures { λ r. ⌜ r ≡ dateOf year 3 1 ⌝ }
+{
+    new_year(year + 1) - 306
+}
+
+// The golden number of a year.
+fn golden(year: u64) -> u64
+    ensures { λ r. ⌜ r ≡ golden year ⌝ }
+{
+    year % 19 + 1
+}
+
+// The epact of a year before its exceptions. Up to the last year that is taken, the sum is above the sun's correction.
+fn plain_epact(year: u64) -> u64
+    requires { ⌜ Taken year ⌝ }
+    ensures { λ r. ⌜ r ≡ plainEpact year ⌝ }
+{
+    let century = year / 100 + 1;
+    let sun = 3 * century / 4 - 12;
+    let moon = (8 * century + 5) / 25 - 5;
+    (11 * golden(year) + 20 + moon - sun) % 30
+}
+
+// The epact of a year.
+fn epact(year: u64) -> u64
+    requires { ⌜ Taken year ⌝ }
+    ensures { λ r. ⌜ r ≡ epact year ⌝ }
+{
+    let plain = plain_epact(year);
+    if plain == 24 {
+        return 25;
+    }
+    if plain == 25 && 11 < golden(year) {
+        return 26;
+    }
+    plain
+}
+
+// The paschal full moon of a year.
+fn full_moon(year: u64) -> u64
+    requires { ⌜ Taken year ⌝ }
+    ensures { λ r. ⌜ r ≡ fullMoon year ⌝ }
+{
+    let march = first_of_march(year);
+    let moon = 43 - epact(year);
+    if moon < 20 {
+        return march + moon + 30;
+    }
+    march + moon
+}
+
+// Easter of a year. The remainder says how many days after a Sunday the full moon is.
+fn easter(year: u64) -> u64
+    requires { ⌜ Taken year ⌝ }
+    ensures { λ r. ⌜ r ≡ easter year ⌝ }
+{
+    let moon = full_moon(year);
+    moon + 7 - (moon + 6) % 7
+}
+
+// Writes the closed days of a year from a place on.
+fn put_year(year: u64, days: &mut [u64], at: usize)
+    requires { ⌜ (Taken year) × (at + 6 ≤ length (now days)) ⌝ }
+    ensures { λ _. ⌜ now (days .exit) ≡ sets (now (days .entry)) at (closedIn year) ⌝ }
+{
+    let march = first_of_march(year);
+    let sunday = easter(year);
+    days[at] = new_year(year);
+    days[at + 1] = sunday - 2;
+    days[at + 2] = sunday + 1;
+    days[at + 3] = march + 61;
+    days[at + 4] = march + 299;
+    days[at + 5] = march + 300;
+}
+
+// Writes the closed days of several years to the front of a list.
+fn write_years(first: u64, years: usize, days: &mut [u64])
+    requires { ⌜ (firstYear ≤ first) × (first + years ≤ lastYear + 1) × (6 * years ≤ length (now days)) ⌝ }
+    ensures { λ _. ⌜ now (days .exit) ≡ atFront (closedFrom first years) (now (days .entry)) ⌝ }
+{
+    let mut i = 0;
+    while i < years {
+        put_year(first + i as u64, days, DAYS_OF_YEAR * i);
+        i += 1;
+    }
+}
+
+// Whether a list of this many words is too short for the years. Neither the number of years nor six times it need fit 64
+// bits, so the words are divided.
+fn are_too_few(first: u64, last: u64, words: usize) -> bool
+    ensures { λ r. ⌜ r ≡ tooFew first last words ⌝ }
+{
+    first <= last && (words / DAYS_OF_YEAR) as u64 <= last - first
+}
+
+// Whether the years are refused. If the first is not after the last, the years are one more than their difference.
+fn are_bad_years(first: u64, last: u64) -> bool
+    ensures { λ r. ⌜ r ≡ badYears first last ⌝ }
+{
+    basics::is_outside(FIRST_YEAR, LAST_YEAR, first)
+        || (basics::is_outside(FIRST_YEAR, LAST_YEAR, last)
+            || (last < first || MOST_YEARS <= last - first))
+}
+
+// The answer number of Target, with this many words lent.
+fn target_answer(first: u64, last: u64, words: usize) -> u64
+    ensures { λ r. ⌜ r ≡ answer (targetRefusals first last words) ⌝ }
+{
+    if are_too_few(first, last, words) {
+        return 5;
+    }
+    if are_bad_years(first, last) {
+        return 23;
+    }
+    0
+}
+
+// Writes the closed days of all years from the first to the last, rising, and returns how many there are.
+pub fn target(first: u64, last: u64, days: &mut [u64]) -> DaysWritten
+    ensures { λ r. ⌜ r ≡ target first last (length (now (days .entry))) ⌝ }
+    ensures { λ r. ⌜ now (days .exit) ≡ targetWords first last (now (days .entry)) ⌝ }
+{
+    let number = target_answer(first, last, days.len());
+    if number != 0 {
+        return DaysWritten {
+            answer: number,
+            count: 0,
+        };
+    }
+    let years = (last - first) as usize + 1;
+    write_years(first, years, days);
+    DaysWritten {
+        answer: 0,
+        count: DAYS_OF_YEAR * years,
+    }
+}
