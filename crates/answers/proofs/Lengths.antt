@@ -6,8 +6,8 @@ use mathlib.Core.Path.{_≡_}
 use mathlib.Core.List.{List, [], _++_}
 use lib.ListN.{length, getD, take, drop, length-append, length-take}
 use Rattle.writing.proofs.Digits.{digits-most, signed-most}
-use Rattle.writing.proofs.Writing.{spaced-most, line-most, labelled-most}
-use Rattle.answers.specs.Text.{mostNumbered, numbersText, balanceText, sixText, linesText, keptText, paidText}
+use Rattle.writing.proofs.Writing.{spaced-most, text-most, line-most, labelled-most}
+use Rattle.answers.specs.Text.{mostNumbered, numbersText, balanceText, sixText, linesText, keptText, wordsText}
 use Rattle.answers.specs.Told.{mostShown}
 use Rattle.answers.specs.declared.Answer.{Answer}
 
@@ -51,14 +51,15 @@ pub kept-most : (n : ℕ) → length (keptText n) ≤ 28
 unfolding keptText
 kept-most n = labelled-most _ n
 
--- the answer to a Month: at most 21 bytes for each place, and 21 more
-pub paid-most : (a : Answer) (words : List ℕ) → length (paidText a words) ≤ 21 * a .lent + 21
-unfolding paidText
-paid-most a words =
+-- numbers and the words that were lent: at most 21 bytes for each word, and as many as a line of numbers has
+pub words-most : (a : Answer) (words : List ℕ) → a .count ≤ mostShown → length (wordsText a words) ≤ 21 * a .lent + mostNumbered
+unfolding wordsText
+words-most a words h =
     simp length-append
     (omega (
       arith,
-      digits-most (getD (a .numbers) 0 0),
+      text-most (take (a .count) (a .numbers)),
+      length-take (a .count) (a .numbers),
       spaced-most (take (a .lent) words),
       length-take (a .lent) words,
     ))

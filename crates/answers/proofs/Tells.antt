@@ -12,10 +12,10 @@ use Rattle.writing.specs.Answers.{Wrote, answerOf}
 use Rattle.writing.proofs.Writing.{no-call-most}
 use Rattle.answers.specs.Text.{mostLent, mostAnswer, Tellable, answerText, textIn}
 use Rattle.answers.specs.Text.{keptOf, numbersText, closedText}
-use Rattle.answers.specs.Told.{mostShown, nothing, noCall, numbersTold, balanceTold, closedTold, paidTold}
+use Rattle.answers.specs.Told.{mostShown, nothing, noCall, numbersTold, balanceTold, closedTold, wordsTold}
 use Rattle.answers.specs.declared.Form.{Form}
 use Rattle.answers.specs.declared.Answer.{Answer}
-use Rattle.answers.proofs.Lengths.{numbers-most, balance-most, lines-most, kept-most, paid-most}
+use Rattle.answers.proofs.Lengths.{numbers-most, balance-most, lines-most, kept-most, words-most}
 
 -- there are as many places for numbers as an answer may show
 pub places : (shown : List ℕ) → length (sets (replicate mostShown 0) 0 shown) ≡ mostShown
@@ -60,11 +60,12 @@ pub closed-tells : (answer lines lent fill : ℕ) (words : List ℕ)
 unfolding closedTold
 closed-tells answer lines lent fill words m w l = record { few = omega arith; whole = refl; lends = m; within = w; lines = l }
 
--- so can the answer to a Month whose places stand within the words that were lent
-pub paid-tells : (answer lent : ℕ) (words : List ℕ) → lent ≤ mostLent → lent ≤ length words
-    → Tellable (paidTold answer lent) words
-unfolding paidTold
-paid-tells answer lent words m w = record { few = omega arith; whole = refl; lends = m; within = w; lines = omega arith }
+-- so can numbers with words that were lent
+pub words-tells : (shown : List ℕ) (lent : ℕ) (words : List ℕ) → length shown ≤ mostShown → lent ≤ mostLent → lent ≤ length words
+    → Tellable (wordsTold shown lent) words
+unfolding wordsTold
+words-tells shown lent words h m w =
+    record { few = h; whole = places shown; lends = m; within = w; lines = omega arith }
 
 -- the text of an answer number with results has exactly these numbers
 pub numbers-shown : (shown words : List ℕ) (line : ℕ) → length shown ≤ mostShown
@@ -93,7 +94,7 @@ module _ (a : Answer) (line : ℕ) (words : List ℕ) (t : Tellable a words) whe
   text-most Form.Numbers = omega (arith, numbers-most a (t .few))
   text-most Form.Balance = omega (arith, balance-most a)
   text-most Form.Closed = closed-most
-  text-most Form.Paid = omega (arith, paid-most a words)
+  text-most Form.Words = omega (arith, words-most a words (t .few), t .lends)
 
   -- every answer that can be written fits its room
   pub answer-most : length (answerText a line words) ≤ mostAnswer

@@ -7,7 +7,7 @@ use lib.ListN.{length, getD, take, drop}
 use Rattle.basics.specs.Choice.{pick}
 use Rattle.writing.specs.Digits.{digitsOf, signedOf}
 use Rattle.writing.specs.Words.{space, spaced}
-use Rattle.writing.specs.Answers.{lineFeed, answerOf, labelled, noCallOf}
+use Rattle.writing.specs.Answers.{lineFeed, textOf, answerOf, labelled, noCallOf}
 use Rattle.answers.specs.declared.Form.{Form}
 use Rattle.answers.specs.declared.Answer.{Answer}
 use Rattle.answers.specs.Told.{mostShown}
@@ -66,10 +66,10 @@ closedText a words =
     ++ linesText words (a .lines)
     ++ keptText (keptOf (a .fill) (drop (6 * a .lines) (take (a .lent) words)))
 
--- the answer to a Month: the answer number, and on the same line the places for payouts
-unfoldable pub paidText : Answer → List ℕ → List ℕ
-paidText a words =
-    digitsOf (getD (a .numbers) 0 0) ++ spaced (map digitsOf (take (a .lent) words)) ++ lineFeed ∷ []
+-- the answer to a Month or a Target: the numbers that are shown, and on the same line the words that were lent
+unfoldable pub wordsText : Answer → List ℕ → List ℕ
+wordsText a words =
+    textOf (take (a .count) (a .numbers)) ++ spaced (map digitsOf (take (a .lent) words)) ++ lineFeed ∷ []
 
 -- the text of an answer in each form
 unfoldable pub textIn : Form → Answer → ℕ → List ℕ → List ℕ
@@ -78,7 +78,7 @@ textIn Form.NoCall a line words = noCallOf line
 textIn Form.Numbers a line words = numbersText a
 textIn Form.Balance a line words = balanceText a
 textIn Form.Closed a line words = closedText a words
-textIn Form.Paid a line words = paidText a words
+textIn Form.Words a line words = wordsText a words
 
 -- the text of the answer to the line with this number
 unfoldable pub answerText : Answer → ℕ → List ℕ → List ℕ

@@ -48,6 +48,6 @@ balanceTold answer cents = toldWith Form.Balance (answer ∷ []) cents 0 0 0
 unfoldable pub closedTold : ℕ → ℕ → ℕ → ℕ → Answer
 closedTold answer lines lent fill = toldWith Form.Closed (answer ∷ lines ∷ []) (pos 0) lines lent fill
 
--- the answer to a Month: an answer number, and how many places for payouts were lent
-unfoldable pub paidTold : ℕ → ℕ → Answer
-paidTold answer lent = toldWith Form.Paid (answer ∷ []) (pos 0) 0 lent 0
+-- the answer to a Month or a Target: an answer number and results, and how many words were lent
+unfoldable pub wordsTold : List ℕ → ℕ → Answer
+wordsTold shown lent = toldWith Form.Words shown (pos 0) 0 lent 0

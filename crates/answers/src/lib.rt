@@ -5,9 +5,9 @@ ghost use Prim.Native.Nat.{_+_, _*_, _≤_};
 ghost use mathlib.Core.Path.{_≡_};
 ghost use lib.ListN.{length, take, drop};
 ghost use Rattle.writing.specs.Answers.{Wrote};
-ghost use Rattle.answers.specs.Told.{mostShown, told, nothing, noCall, numbersTold, balanceTold, closedTold, paidTold};
+ghost use Rattle.answers.specs.Told.{mostShown, told, nothing, noCall, numbersTold, balanceTold, closedTold, wordsTold};
 ghost use Rattle.answers.specs.Text.{mostNumbered, mostAnswer, Tellable, numbersText, balanceText, sixText, linesText, keptOf};
-ghost use Rattle.answers.specs.Text.{keptText, closedText, paidText, answerText};
+ghost use Rattle.answers.specs.Text.{keptText, closedText, wordsText, answerText};
 
 // What the answer to a line looks like.
 pub enum Form {
@@ -21,8 +21,8 @@ pub enum Form {
     Balance,
     // An answer number, how many lines there are, the lines, and how many words are kept.
     Closed,
-    // An answer number and the places for payouts.
-    Paid,
+    // An answer number and results, and on the same line the words that were lent.
+    Words,
 }
 
 // The most bytes of an answer: 22 for each of the most words that are lent, and 100 more.
@@ -32,8 +32,8 @@ pub const MOST_ANSWER: usize = 90_212;
 pub const MOST_SHOWN: usize = 7;
 
 // The answer to a line. It has a form, numbers of which the first `count` are shown, and signed cents. Where words were
-// lent, it also says how many lines of six words stand in them, how many words were lent, and with what value they were
-// filled. For a Month it says how many words were lent.
+// lent, it also says how many of them there are. For a Close or an Again it says how many lines of six words stand in
+// them, and with what value they were filled.
 pub struct Answer {
     pub form: Form,
     pub numbers: [u64; MOST_SHOWN],
@@ -114,12 +114,12 @@ impl Answer {
         made
     }
 
-    // An answer number, and how many places for payouts were lent.
-    pub fn paid(answer: u64, lent: usize) -> Answer
-        ensures { λ r. ⌜ r ≡ paidTold answer lent ⌝ }
+    // An answer number and results, and how many words were lent.
+    pub fn with_words(shown: &[u64], lent: usize) -> Answer
+        requires { ⌜ length (now shown) ≤ mostShown ⌝ }
+        ensures { λ r. ⌜ r ≡ wordsTold (now (shown .entry)) lent ⌝ }
     {
-        let shown = [answer];
-        let mut made = Answer::new(Form::Paid, &shown);
+        let mut made = Answer::new(Form::Words, shown);
         made.lent = lent;
         made
     }
@@ -159,15 +159,16 @@ impl Answer {
         tell_kept(kept_of(words, 6 * lines, lent, self.fill), out, end)
     }
 
-    // Writes the answer to a Month: its number, and on the same line the places for payouts as the call left them.
-    fn tell_paid(self, words: &[u64], out: &mut [u8], at: usize) -> usize
+    // Writes the numbers of an answer, and on the same line the words that were lent, as the call left them.
+    fn tell_words(self, words: &[u64], out: &mut [u8], at: usize) -> usize
         requires { ⌜ (Tellable self (now words)) × (at + mostAnswer ≤ length (now out)) ⌝ }
-        ensures { λ r. ⌜ Wrote (paidText self (now (words .entry))) (now (out .entry)) at (now (out .exit)) r ⌝ }
+        ensures { λ r. ⌜ Wrote (wordsText self (now (words .entry))) (now (out .entry)) at (now (out .exit)) r ⌝ }
     {
         let numbers = self.numbers;
+        let count = self.count;
         let lent = self.lent;
-        let number = writing::write_number(out, at, numbers[0]);
-        let end = writing::write_further(out, number, &words[..lent]);
+        let next = writing::write_numbers(out, at, &numbers[..count]);
+        let end = writing::write_further(out, next, &words[..lent]);
         out[end] = LINE_FEED;
         end + 1
     }
@@ -185,7 +186,7 @@ impl Answer {
             Form::Numbers => self.tell_numbers(out, at),
             Form::Balance => self.tell_balance(out, at),
             Form::Closed => self.tell_closed(words, out, at),
-            Form::Paid => self.tell_paid(words, out, at),
+            Form::Words => self.tell_words(words, out, at),
         }
     }
 }

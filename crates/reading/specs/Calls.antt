@@ -42,6 +42,7 @@ namings =
     ∷ naming (115 ∷ 116 ∷ 97 ∷ 116 ∷ 117 ∷ 115 ∷ []) Name.Status (Shape.Plain 1)
     ∷ naming (97 ∷ 99 ∷ 99 ∷ 111 ∷ 117 ∷ 110 ∷ 116 ∷ []) Name.Account (Shape.Plain 1)
     ∷ naming (108 ∷ 111 ∷ 111 ∷ 107 ∷ []) Name.Look (Shape.Plain 1)
+    ∷ naming (116 ∷ 97 ∷ 114 ∷ 103 ∷ 101 ∷ 116 ∷ []) Name.Target (Shape.Lent 2)
     ∷ naming (114 ∷ 117 ∷ 108 ∷ 101 ∷ 115 ∷ []) Name.Rules (Shape.Plain 0)
     ∷ []
 

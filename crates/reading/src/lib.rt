@@ -25,6 +25,8 @@ pub enum Name {
     Status,
     Account,
     Look,
+    // This call takes no book. It writes closed days.
+    Target,
     // This is no call on the book. It asks for the edition of the rules.
     Rules,
 }
@@ -111,6 +113,7 @@ fn name_of(word: &[u8]) -> Named
         0x737574617473 => Named::As(Name::Status, Shape::Plain(1)),
         0x746e756f636361 => Named::As(Name::Account, Shape::Plain(1)),
         0x6b6f6f6c => Named::As(Name::Look, Shape::Plain(1)),
+        0x746567726174 => Named::As(Name::Target, Shape::Lent(2)),
         0x73656c7572 => Named::As(Name::Rules, Shape::Plain(0)),
         _ => Named::Nothing,
     }

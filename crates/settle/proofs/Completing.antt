@@ -34,7 +34,7 @@ use Rattle.settle.specs.Asked.{asks}
 use Rattle.settle.specs.Flow.{readOf, readInto, FedOn}
 use Rattle.settle.specs.Flow.FedOn.{ready, cleared, uncleared, fed, unfed}
 use Rattle.settle.specs.Turns.{Gives, Held, Turn, begins, Reached, mostTurns}
-use Rattle.settle.specs.Turns.Gives.{opening, calling, showing, balancing, looking, ruling, passing, objecting}
+use Rattle.settle.specs.Turns.Gives.{opening, calling, showing, balancing, looking, targeting, ruling, passing, objecting}
 use Rattle.settle.specs.Turns.Reached.{start, turn}
 use Rattle.settle.specs.Ending.{overText, textAfter, lastText, PlaysIn}
 use Rattle.settle.specs.Read.{answeredBy, isError, failsBy, writtenBy, playedIn, readIn, answeredIn, failedIn, writtenIn, answersIn, heldText, Complete, Handed}
@@ -197,6 +197,7 @@ passes (calling name shape n k h) e = call-comment name shape n e
 passes (showing shape n) e = call-comment Name.Status shape n e
 passes (balancing shape n) e = call-comment Name.Account shape n e
 passes (looking shape n answer h) e = call-comment Name.Look shape n e
+passes (targeting shape n) e = call-comment Name.Target shape n e
 passes (ruling shape n) e = call-comment Name.Rules shape n e
 passes passing e = refl
 passes objecting e = absurd (let z : _≡_ {A = ℕ} 0 1 = cc in omega arith)

@@ -13,12 +13,12 @@ use Rattle.book.specs.Month.{month, monthWords}
 use Rattle.reading.specs.declared.Name.{Name}
 use Rattle.reading.specs.declared.Shape.{Shape}
 use Rattle.reading.specs.declared.Line.{Line}
-use Rattle.answers.specs.Told.{numbersTold, closedTold, paidTold}
+use Rattle.answers.specs.Told.{numbersTold, closedTold, wordsTold}
 use Rattle.settle.specs.declared.calls.Asked.{Asked}
 use Rattle.settle.specs.declared.calls.Played.{Played}
 use Rattle.settle.specs.Calls.{played, listIn, lentTo, Asking, askingOf, answerBy, wordsBy, afterCall, wordsAfter}
 use Rattle.settle.specs.Turns.{Gives}
-use Rattle.settle.specs.Turns.Gives.{opening, calling, showing, balancing, looking, ruling, passing, objecting}
+use Rattle.settle.specs.Turns.Gives.{opening, calling, showing, balancing, looking, targeting, ruling, passing, objecting}
 
 module _ (a : Asked) (ns : List ℕ) {name other : Name} (e : other ≡ name) {k : Asking} (h : askingOf name a ns ≡ some k) where
   -- a line that asks for no call asks for none
@@ -43,6 +43,7 @@ asked-as {b} {a} {ns} {ws} {name = name} (calling m s j i f) e h =
 asked-as {a = a} {ns = ns} {name = name} (showing s m) e h = let named : Name.Status ≡ name = cc in not-asked a ns named h refl
 asked-as {a = a} {ns = ns} {name = name} (balancing s m) e h = let named : Name.Account ≡ name = cc in not-asked a ns named h refl
 asked-as {a = a} {ns = ns} {name = name} (looking s m answer g) e h = let named : Name.Look ≡ name = cc in not-asked a ns named h refl
+asked-as {a = a} {ns = ns} {name = name} (targeting s m) e h = let named : Name.Target ≡ name = cc in not-asked a ns named h refl
 asked-as {a = a} {ns = ns} {name = name} (ruling s m) e h = let named : Name.Rules ≡ name = cc in not-asked a ns named h refl
 asked-as passing e h = absurd (let z : _≡_ {A = ℕ} 0 1 = cc in omega arith)
 asked-as objecting e h = absurd (let z : _≡_ {A = ℕ} 0 1 = cc in omega arith)
@@ -72,13 +73,13 @@ module _ (b : Book) (a : Asked) (ns ws : List ℕ) (l : Line) (p : Played) (afte
 
   -- a month: the book and the answer number of a Month, with the payouts in the words that it was lent
   pub months : l ≡ Line.Call Name.Month shape n
-      → (p ≡ played (month b (listIn a ns) (a .lent) .book) (paidTold (month b (listIn a ns) (a .lent) .answer) (a .lent)))
+      → (p ≡ played (month b (listIn a ns) (a .lent) .book) (wordsTold (month b (listIn a ns) (a .lent) .answer ∷ []) (a .lent)))
       × (after ≡ monthWords b (listIn a ns) (lentTo a) ++ drop (a .lent) ws)
   unfolding answerBy wordsBy
   months e =
       let is = asked-as gives e refl in (
         is .0
-            ∙ ap (λ (k : ℕ). let r = month b (listIn a ns) k in played (r .book) (paidTold (r .answer) (a .lent)))
+            ∙ ap (λ (k : ℕ). let r = month b (listIn a ns) k in played (r .book) (wordsTold (r .answer ∷ []) (a .lent)))
             (length-replicate (a .lent) (a .fill)),
         is .1,
       )

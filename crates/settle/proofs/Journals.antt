@@ -14,7 +14,7 @@ use Rattle.settle.specs.declared.calls.Asked.{Asked}
 use Rattle.settle.specs.declared.calls.Played.{Played}
 use Rattle.settle.specs.Calls.{listIn}
 use Rattle.settle.specs.Turns.{Gives, Held, begins, Reached}
-use Rattle.settle.specs.Turns.Gives.{opening, calling, showing, balancing, looking, ruling, passing, objecting}
+use Rattle.settle.specs.Turns.Gives.{opening, calling, showing, balancing, looking, targeting, ruling, passing, objecting}
 use Rattle.settle.specs.Turns.Reached.{start, turn}
 
 -- an Open and a list of calls lead to the book
@@ -44,6 +44,7 @@ line-leads (calling name shape n k h) j = goes-on (k .call) j
 line-leads (showing shape n) j = j
 line-leads (balancing shape n) j = j
 line-leads (looking shape n answer h) j = j
+line-leads (targeting shape n) j = j
 line-leads (ruling shape n) j = j
 line-leads passing j = j
 line-leads objecting j = j

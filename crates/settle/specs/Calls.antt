@@ -7,6 +7,8 @@ use mathlib.Core.Option.{Option, none, some}
 use lib.ListN.{getD, drop, replicate}
 use Rattle.basics.specs.Lists.{between}
 use Rattle.calendar.specs.Closed.{day}
+use Rattle.holidays.specs.declared.DaysWritten.{DaysWritten}
+use Rattle.holidays.specs.Target.{target, targetWords}
 use Rattle.book.specs.declared.Book.{Book}
 use Rattle.book.specs.declared.Opened.{Opened}
 use Rattle.book.specs.declared.Entered.{Entered}
@@ -20,7 +22,7 @@ use Rattle.book.specs.Open.{opened}
 use Rattle.book.specs.Instructing.{enter}
 use Rattle.book.specs.Showing.{status, account, Looks}
 use Rattle.answers.specs.declared.Answer.{Answer}
-use Rattle.answers.specs.Told.{nothing, numbersTold, balanceTold, closedTold, paidTold}
+use Rattle.answers.specs.Told.{nothing, numbersTold, balanceTold, closedTold, wordsTold}
 use Rattle.journal.specs.Calls.{Call}
 use Rattle.journal.specs.Played.{Outcome, outcome}
 use Rattle.reading.specs.declared.Name.{Name}
@@ -70,7 +72,8 @@ againAsked a = record { call = Call.again (lentTo a); manner = by-lines }
 abbrev pub monthAsked : Asked → List ℕ → Asking
 monthAsked a ns = record { call = Call.month (listIn a ns) (lentTo a); manner = by-payouts }
 
--- The call of a journal that a line asks for. An open begins another journal, and the others leave the book as it is.
+-- The call of a journal that a line asks for. An open begins another journal, and the others leave the book as it is or
+-- take none.
 abbrev pub askingOf : Name → Asked → List ℕ → Option Asking
 askingOf Name.Open a ns = none
 askingOf Name.Enter a ns = plain (Call.enter (a .first) (a .second) (a .third) (a .fourth) (a .fifth) (day (a .sixth)))
@@ -84,13 +87,14 @@ askingOf Name.Month a ns = some (monthAsked a ns)
 askingOf Name.Status a ns = none
 askingOf Name.Account a ns = none
 askingOf Name.Look a ns = none
+askingOf Name.Target a ns = none
 askingOf Name.Rules a ns = none
 
 -- the answer to a call: the answer number and the results, the lines, or the payouts
 unfoldable pub answerBy : Manner → Asked → Outcome → Answer
 answerBy by-numbers a o = numbersTold (o .answer ∷ o .results)
 answerBy by-lines a o = closedTold (o .answer) (getD (o .results) 0 0) (a .lent) (a .fill)
-answerBy by-payouts a o = paidTold (o .answer) (a .lent)
+answerBy by-payouts a o = wordsTold (o .answer ∷ []) (a .lent)
 
 -- the words after a call: those that it was lent are as it left them, and the others are as they were
 unfoldable pub wordsBy : Manner → Asked → Outcome → List ℕ → List ℕ
@@ -164,9 +168,21 @@ pub record LooksAs (b : Book) (a : Asked) (answer : Answer) : Type 0 where
   pub allowed : Looks b (a .first) looked
   pub told : answer ≡ lookedAs looked
 
+-- the answer to a target: the answer number and how many days were written, and the words that it was lent
+abbrev pub writtenAs : DaysWritten → ℕ → Answer
+writtenAs r lent = wordsTold (r .answer ∷ r .count ∷ []) lent
+
+-- target: first year, last year
+abbrev pub targets : Asked → Answer
+targets a = writtenAs (target (a .first) (a .second) (a .lent)) (a .lent)
+
+-- the words after a target: those that it was lent are as it left them, and the others are as they were
+abbrev pub wordsTargeted : Asked → List ℕ → List ℕ
+wordsTargeted a ws = targetWords (a .first) (a .second) (lentTo a) ++ drop (a .lent) ws
+
 -- the edition of the rules: the number of the latest change in docs/RULES.md
 abbrev pub edition : ℕ
-edition = 2
+edition = 3
 
 -- the answer to rules: 0 and the edition
 abbrev pub editionTold : Answer

@@ -22,7 +22,7 @@ use Rattle.settle.specs.declared.flow.Course.the-variants.{Going, Over, 
 use Rattle.settle.specs.declared.flow.Flow.{Flow}
 use Rattle.settle.specs.Asked.{asks, noted}
 use Rattle.settle.specs.Calls.{played, atFirst, opens, Asking, askingOf, afterCall, wordsAfter}
-use Rattle.settle.specs.Calls.{shows, balances, LooksAs, editionTold}
+use Rattle.settle.specs.Calls.{shows, balances, LooksAs, targets, wordsTargeted, editionTold}
 use Rattle.settle.specs.Flow.{atStart, FedOn, TakenOn, ToldOn}
 
 -- The buffers are large enough. The one for a line has room for more bytes than a call's line may have, so that a line
@@ -44,6 +44,7 @@ pub data Gives (b : Book) (a : Asked) (ns ws : List ℕ) : Line → Played → L
   balancing : (shape : Shape) (n : ℕ) → Gives b a ns ws (Call Name.Account shape n) (played b (balances b a)) ws
   looking : (shape : Shape) (n : ℕ) (answer : Answer) → LooksAs b a answer →
       Gives b a ns ws (Call Name.Look shape n) (played b answer) ws
+  targeting : (shape : Shape) (n : ℕ) → Gives b a ns ws (Call Name.Target shape n) (played b (targets a)) (wordsTargeted a ws)
   ruling : (shape : Shape) (n : ℕ) → Gives b a ns ws (Call Name.Rules shape n) (played b editionTold) ws
   passing : Gives b a ns ws Comment (played b nothing) ws
   objecting : Gives b a ns ws NoCall (played b noCall) ws

@@ -21,11 +21,12 @@ ghost use Rattle.book.specs.Book.{Valid};
 ghost use Rattle.reading.specs.Calls.{mostNumbers, shapeRight};
 ghost use Rattle.settle.specs.Asked.{nothingAsked, askedWith, askedLent, askedCall, asks, noted, Listed};
 ghost use Rattle.settle.specs.Calls.{atFirst, opens, enters, afterDone, afterCancel, afterDeliver, afterCall, wordsAfter};
-ghost use Rattle.settle.specs.Calls.{closeAsked, againAsked, monthAsked, shownAs, balanceAs, lookedAs, editionTold};
+ghost use Rattle.settle.specs.Calls.{closeAsked, againAsked, monthAsked, shownAs, balanceAs, lookedAs};
+ghost use Rattle.settle.specs.Calls.{targets, wordsTargeted, editionTold};
 
 // What a line asks. The first six numbers of the buffer are copied for every call; a call with fewer arguments does not
 // use the rest, which may be left from earlier lines. `from` and `to` are the places of the list of an open or a month.
-// `lent` says how many words a close, an again or a month is lent, and `fill` with what value they are filled.
+// `lent` says how many words a close, an again, a month or a target is lent, and `fill` with what value they are filled.
 pub struct Asked {
     pub line: Line,
     pub first: u64,
@@ -248,10 +249,11 @@ pub fn month(book: Book, a: Asked, n: &[u64], words: &mut [u64]) -> Played
     let from = a.from;
     let to = a.to;
     let done = book.month(&n[from..to], &mut words[..lent]);
+    let shown = [done.answer];
     let after = done.book;
     Played {
         book: after,
-        answer: Answer::paid(done.answer, lent),
+        answer: Answer::with_words(&shown, lent),
     }
 }
 
@@ -287,8 +289,21 @@ pub fn looked(looked: Looked) -> Answer
     Answer::numbers(&numbers)
 }
 
+// A target takes no book: it writes closed days, with which a book may be opened later.
+pub fn target(a: Asked, words: &mut [u64]) -> Answer
+    requires { ⌜ a .lent ≤ length (now words) ⌝ }
+    ensures { λ r. ⌜ r ≡ targets a ⌝ }
+    ensures { λ r. ⌜ now (words .exit) ≡ wordsTargeted a (now (words .entry)) ⌝ }
+{
+    let lent = a.lent;
+    fill(words, lent, a.fill);
+    let done = holidays::target(a.first, a.second, &mut words[..lent]);
+    let shown = [done.answer, done.count as u64];
+    Answer::with_words(&shown, lent)
+}
+
 // The edition of the rules that the book follows: the number of the latest change in docs/RULES.md.
-pub const EDITION: u64 = 2;
+pub const EDITION: u64 = 3;
 
 pub fn rules() -> Answer
     ensures { λ r. ⌜ r ≡ editionTold ⌝ }

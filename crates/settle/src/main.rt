@@ -68,6 +68,7 @@ fn settle_all(
                 Name::Status => played.answer = calls::shown(played.book.status(a.first)),
                 Name::Account => played.answer = calls::balance(played.book.account(a.first)),
                 Name::Look => played.answer = calls::looked(played.book.look(a.first)),
+                Name::Target => played.answer = calls::target(a, words),
                 Name::Rules => played.answer = calls::rules(),
             },
             Line::Comment => played.answer = Answer::nothing(),
@@ -99,7 +100,7 @@ fn number_places() -> [u64; NUMBER_PLACES]
     [0; NUMBER_PLACES]
 }
 
-// Places for the words that a Close or an Again is lent, and for the payouts of a Month.
+// Places for the words that a Close, an Again, a Month or a Target is lent.
 const WORD_PLACES: usize = 4_096;
 
 fn word_places() -> [u64; WORD_PLACES]

@@ -11,13 +11,13 @@ use Rattle.book.specs.declared.Book.{Book}
 use Rattle.book.specs.Book.{Valid}
 use Rattle.book.proofs.Ended.{close-fits, again-fits}
 use Rattle.answers.specs.Text.{Tellable}
-use Rattle.answers.specs.Told.{closedTold}
-use Rattle.answers.proofs.Tells.{nothing-tells, no-call-tells, numbers-tells, balance-tells, closed-tells, paid-tells}
+use Rattle.answers.specs.Told.{mostShown, closedTold, wordsTold}
+use Rattle.answers.proofs.Tells.{nothing-tells, no-call-tells, numbers-tells, balance-tells, closed-tells, words-tells}
 use Rattle.settle.specs.declared.flow.Flow.{Flow}
 use Rattle.settle.specs.declared.calls.Played.{Played}
 use Rattle.settle.specs.Calls.{played, lentTo, afterDone, afterCancel, afterDeliver, afterCall, closeAsked, againAsked, monthAsked, shownAs, balanceAs, answerBy}
 use Rattle.settle.specs.Turns.{Held, begins}
-use Rattle.settle.specs.Turns.Gives.{opening, calling, showing, balancing, looking, ruling, passing, objecting}
+use Rattle.settle.specs.Turns.Gives.{opening, calling, showing, balancing, looking, targeting, ruling, passing, objecting}
 use Rattle.settle.proofs.Turning.{Stands, standing, stopped, Given, given-by, call-line, numbers-given, shown-given, turned, fewer, took-within}
 use Rattle.settle.proofs.Flows.{Kept, Ready, fed-kept, fed-ready}
 use Rattle.settle.proofs.settle_all.Statement.{statement}
@@ -88,12 +88,17 @@ again-tells : (s : tie.After-slice-known8 Inv-loop μ-loop) {after : List ℕ} �
 unfolding answerBy
 again-tells s same = lines-tell s _ _ (again-fits (book s) (lentTo (asked s .ask .result)) (valid s)) same
 
+-- The answer to a call that is told by numbers and the words that it was lent can be written.
+words-tell : (s : tie.After-slice-known8 Inv-loop μ-loop) {after : List ℕ} (shown : List ℕ) → length shown ≤ mostShown → length after ≡ length (turn s .loop .words)
+    → Tellable (wordsTold shown (asked s .ask .result .lent)) after
+words-tell s shown few same =
+    let lends = asked s .ask .ensures .1 .1 .lends in
+    words-tells shown _ _ few lends (omega (arith, lends, same, turn s .loop .inv .0 .room .lendable))
+
 month-tells : (s : tie.After-slice-known8 Inv-loop μ-loop) {after : List ℕ} → length after ≡ length (turn s .loop .words)
     → Tellable (afterCall (book s) (asked s .ask .result) (monthAsked (asked s .ask .result) (asked s .ask .last .1 .1 .0)) .answer) after
 unfolding answerBy
-month-tells s same =
-    let lends = asked s .ask .ensures .1 .1 .lends in
-    paid-tells _ _ _ lends (omega (arith, lends, same, turn s .loop .inv .0 .room .lendable))
+month-tells s same = words-tell s _ (omega arith) same
 
 -- one of two cases
 cases : {A B C : Type 0} → A ⊎ B → (A → C) → (B → C) → C
@@ -119,9 +124,10 @@ given c =
     (λ y. cases y (λ x. shown-given (call-line (x .1 .given .1) (x .4 .given .1)) (showing _ _) (x .8 ∙ ap (played (book s)) (x .6 .ensures ∙ ap shownAs (x .5 .ensures .0))) (x .7) (valid s) (numbers-tells _ _ (omega arith)))
     (λ y. cases y (λ x. shown-given (call-line (x .1 .given .1) (x .4 .given .1)) (balancing _ _) (x .8 ∙ ap (played (book s)) (x .6 .ensures ∙ ap balanceAs (x .5 .ensures .0))) (x .7) (valid s) (balance-tells _ _ _))
     (λ y. cases y (λ x. shown-given (call-line (x .1 .given .1) (x .4 .given .1)) (looking _ _ _ (record { looked = x .5 .result; allowed = x .5 .ensures .0; told = refl })) (x .8 ∙ ap (played (book s)) (x .6 .ensures)) (x .7) (valid s) (numbers-tells _ _ (omega arith)))
+    (λ y. cases y (λ x. given-by _ _ _ (call-line (x .1 .given .1) (x .4 .given .1)) (x .10 ∙ ap (played (book s)) (x .6 .ensures .0)) (x .9 ∙ x .6 .ensures .1) (targeting _ _) (valid s) (words-tell s _ (omega arith) (ap length (x .9) ∙ x .6 .kept .1 .0)) (ap length (x .9) ∙ x .6 .kept .1 .0))
     (λ y. cases y (λ x. shown-given (call-line (x .1 .given .1) (x .4 .given .1)) (ruling _ _) (x .7 ∙ ap (played (book s)) (x .5 .ensures)) (x .6) (valid s) (numbers-tells _ _ (omega arith)))
     (λ y. cases y (λ x. shown-given (x .1 .given .1) passing (x .4 ∙ ap (played (book s)) (x .2 .ensures)) (x .3) (valid s) (nothing-tells _))
-    (λ x. shown-given (x .1 .given .1) objecting (x .4 ∙ ap (played (book s)) (x .2 .ensures)) (x .3) (valid s) (no-call-tells _)))))))))))))))
+    (λ x. shown-given (x .1 .given .1) objecting (x .4 ∙ ap (played (book s)) (x .2 .ensures)) (x .3) (valid s) (no-call-tells _))))))))))))))))
 
 loop-holds : tie.Need-loop-holds Inv-loop μ-loop
 loop-holds c =
@@ -151,9 +157,13 @@ ask-requires c κs =
 open-requires : tie.Need-open-requires Inv-loop μ-loop
 open-requires c κs = asked (c .before .before .before .before .before .before) .ask .ensures .1 .1
 
--- the words for lines are there
+-- the words that a line asks for are there
+lends : (s : tie.After-slice-known8 Inv-loop μ-loop) → asked s .ask .result .lent ≤ length (turn s .loop .words)
+lends s = omega (arith, asked s .ask .ensures .1 .1 .lends, turn s .loop .inv .0 .room .lendable)
+
+-- so are the words for lines
 lends-lines : (s : tie.After-slice-known8 Inv-loop μ-loop) → (Valid (book s)) × (asked s .ask .result .lent ≤ length (turn s .loop .words))
-lends-lines s = (valid s, omega (arith, asked s .ask .ensures .1 .1 .lends, turn s .loop .inv .0 .room .lendable))
+lends-lines s = (valid s, lends s)
 
 close-requires : tie.Need-close-requires Inv-loop μ-loop
 close-requires c κs = lends-lines (c .before .before .before .before .before .before)
@@ -164,8 +174,10 @@ again-requires c κs = lends-lines (c .before .before .before .before .before .b
 month-requires : tie.Need-month-requires Inv-loop μ-loop
 month-requires c κs =
     let s = c .before .before .before .before .before .before .before in
-    let listed = asked s .ask .ensures .1 .1 in
-    (valid s, listed, omega (arith, listed .lends, turn s .loop .inv .0 .room .lendable))
+    (valid s, asked s .ask .ensures .1 .1, lends s)
+
+target-requires : tie.Need-target-requires Inv-loop μ-loop
+target-requires c κs = lends (c .before .before .before .before .before .before)
 
 tell-requires : tie.Need-tell-requires Inv-loop μ-loop
 tell-requires c κs = (given (c .before .before) .tells, ready (c .before .before .before) .room)
@@ -201,7 +213,7 @@ tell-last-requires : tie.Need-tell-last-requires Inv-loop μ-loop
 tell-last-requires c κs = let s = c .before .before .before .loop .inv .0 in (s .held, s .within, s .room .writable)
 
 -- the place where the loop ended
-abbrev last : tie.After-slice-known13 Inv-loop μ-loop → tie.After-loop Inv-loop μ-loop
+abbrev last : tie.After-slice-known14 Inv-loop μ-loop → tie.After-loop Inv-loop μ-loop
 last c = c .before .before .before .before .before
 
 returns : tie.Need-returns Inv-loop μ-loop
@@ -243,6 +255,7 @@ settle-all-spec =
     (λ c. search needs) (λ c κs. valid (c .before .before .before .before .before)) (λ c κs. search needs)
     (λ c. search needs) (λ c κs. valid (c .before .before .before .before .before)) (λ c κs. search needs)
     (λ c. search needs) (λ c κs. valid (c .before .before .before .before .before)) (λ c κs. search needs)
+    (λ c. search needs) target-requires
     (λ c. search needs) (λ c κs. search needs)
     (λ c. search needs) (λ c κs. search needs)
     (λ c. search needs) (λ c κs. search needs)

@@ -27,4 +27,4 @@ tell-spec =
     (λ c. search needs)
     (λ c. wrote-in (c .before .before .before .before .before .before .before .before .args .self) _ _ _ (c .before .before .before .before .enum-told5 .given .1) (c .before .before .tell-closed .ensures))
     (λ c. search needs)
-    (λ c. wrote-in (c .before .before .before .before .before .before .before .before .args .self) _ _ _ (c .before .before .before .before .enum-told6 .given .1) (c .before .before .tell-paid .ensures)))
+    (λ c. wrote-in (c .before .before .before .before .before .before .before .before .args .self) _ _ _ (c .before .before .before .before .enum-told6 .given .1) (c .before .before .tell-words .ensures)))

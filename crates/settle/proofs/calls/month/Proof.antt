@@ -1,7 +1,7 @@
 -- `month` meets its contract.
 use Prim.Native.Nat.{ℕ}
 use lib.ListN.{length}
-use mathlib.Core.List.{List, _++_}
+use mathlib.Core.List.{List, [], _∷_, _++_}
 use mathlib.Core.Path.{sym, ap, ap₂, _∙_}
 use borrow.Author.Needs.{needs}
 use Rattle.settle.proofs.Lending.{filled-front, filled-rest, filled-length}
@@ -9,7 +9,7 @@ use Rattle.settle.specs.Calls.{played, listIn, answerBy, wordsBy}
 use Rattle.settle.specs.declared.calls.Played.{Played}
 use Rattle.book.specs.Month.{month, monthWords}
 use Rattle.book.specs.declared.Done.{Done}
-use Rattle.answers.specs.Told.{paidTold}
+use Rattle.answers.specs.Told.{wordsTold}
 use Rattle.settle.proofs.calls.month.Statement.{statement}
 use Rattle.settle.proofs.calls.month.Tie as tie
 
@@ -37,8 +37,11 @@ slice-aggregate-month c = let s = c .before .before .before .before .before .bef
 month-requires : tie.Need-month-requires
 month-requires c κs = search needs
 
-paid-requires : tie.Need-paid-requires
-paid-requires c κs = search needs
+slice-aggregate-with-words : tie.Need-slice-aggregate-with-words
+slice-aggregate-with-words c = search needs
+
+with-words-requires : tie.Need-with-words-requires
+with-words-requires c κs = search needs
 
 same-length : tie.Need-same-length
 same-length c = search needs
@@ -46,14 +49,16 @@ same-length c = search needs
 returns : tie.Need-returns
 unfolding answerBy wordsBy
 returns c =
-    let s = c .before .before .before .before .before .before .before .before .before .before .before .before .before in
+    let called = c .before .before .before .before .before in
+    let filled = called .before .before .before .before .before in
+    let s = filled .before .before .before .before in
     let a = s .args .a in
-    let done = c .before .before .before .before .month in
-    let f = c .before .before .before .before .before .before .before .before .before .fill .ensures in
+    let done = called .month in
+    let f = filled .fill .ensures in
     let front = filled-front (a .lent) (a .fill) (s .args .words .now) _ f in
     let given = listIn a (s .args .n .now) in
-    let told : Done → Played = λ (r : Done). played (r .book) (paidTold (r .answer) (a .lent)) in (
-      ap (played (done .result .book)) (c .paid .ensures)
+    let told : Done → Played = λ (r : Done). played (r .book) (wordsTold (r .answer ∷ []) (a .lent)) in (
+      ap (played (done .result .book)) (c .with-words .ensures)
           ∙ ap told (done .ensures .0 ∙ ap (λ (ws : List ℕ). month (s .args .book) given (length ws)) front),
       (
         ap₂ _++_ (done .ensures .1 .0 ∙ ap (monthWords (s .args .book) given) front)
@@ -74,6 +79,7 @@ month-spec =
     slice-relend-prefix-month
     slice-aggregate-month
     month-requires
-    paid-requires
+    slice-aggregate-with-words
+    with-words-requires
     same-length
     returns)
