@@ -12,7 +12,7 @@ use Rattle.basics.specs.Lists.{Every, Sorted}
 use Rattle.basics.specs.Lists.Every.{nobody, also}
 use Rattle.basics.specs.Lists.Sorted.{empty, ahead}
 use Rattle.basics.specs.Refusals.{Refusal, refuse, answer, outcome}
-use Rattle.basics.proofs.Cases.{pick-case, and-true}
+use Rattle.basics.proofs.Cases.{never, pick-case, and-true}
 use Rattle.basics.proofs.Everywhere.{every-map, every-member}
 
 -- ---- reading a list of refusals from the front
@@ -213,6 +213,13 @@ pub refuses-none : (rs : List Refusal) (number : ℕ) → Refuses rs number → 
 refuses-none rs number r =
     let f = answer-zero rs (r .printed) in
     (λ e. f .0 (sym (r .given) ∙ e), λ s. r .given ∙ f .1 s)
+
+-- it does not answer a number whose condition does not hold
+pub never-given : (rs : List Refusal) (number n : ℕ) → Refuses rs number → (n ≡ 0 → ⊥)
+    → Every (λ r. r .number ≡ n → r .holds ≡ false) rs → number ≡ n → ⊥
+never-given rs number n r z fails e =
+    let s = refuses-by rs number r n z .0 e in
+    never (sym (every-member (λ (x : Refusal). x .number ≡ n → x .holds ≡ false) fails (s .listed) (s .number)) ∙ s .holds)
 
 -- the number of an outcome is that of its list
 pub outcome-refuses : {A : Type 0} (number : A → ℕ) (rs : List Refusal) (done : A) (refused : ℕ → A) → risingFrom 0 rs ≡ true →

@@ -15,6 +15,9 @@ use Rattle.calendar.specs.declared.NextDay.the-variants.{At}
 use Rattle.calendar.specs.Closed.{day, lastDay, risesFrom, closedRefused, closedDays, listed, among}
 use Rattle.calendar.specs.Days.{clearingDays, clearing, clearingWithin, nextWithin, nextAfter, nthAfter, ageAt}
 use Rattle.calendar.proofs.Ages.{age-nth}
+use Rattle.holidays.specs.Years.{isLeap, monthsOf, daysOfYears, newYear, dateOf}
+use Rattle.holidays.specs.Easter.{sunCorrection, moonCorrection, plainEpact, epact, marchMoon, fullMoon, sundayFrom, easter}
+use Rattle.holidays.specs.Target.{goodFriday, easterMonday, closedIn, closedFrom, targetDays, targetRefusals, target, targetWords}
 use Rattle.amounts.specs.Quotients.{rounded}
 use Rattle.amounts.specs.Amounts.{value, penalty, compensation, dueFor, cash, cashOfEach, charge, tolerance, amountsMatch, aboveCap}
 use Rattle.netting.specs.Accounts.{debited, credited, transferred}
@@ -46,7 +49,7 @@ use Rattle.book.specs.Instructing.{doneRefused}
 use Rattle.journal.specs.Calls.{Call}
 use Rattle.journal.specs.Played.{outcome, eventOf, begun}
 use Rattle.examples.specs.Played.{opening, bookAfter, eventsOn, numbersOf, accepted, answersOf, shown, sale, closeAt, daysPass, toBuyIn, compensationPlayed, capOffers, capPlayed, matchPlayed, deliversPlayed, auctionOffers, auctionPlayed, collecting, everybodyPaid, monthPlayed, answerWithLines, answersWithLines, twoSales, againLent, reprintPlayed}
-use Rattle.examples.specs.Table.{table, boughtFrom, nthDay, dayNumber, oneOfThree, threeCash, compensatedFor, boughtInTwo, twoPenalties, paidInFull}
+use Rattle.examples.specs.Table.{table, boughtFrom, nthDay, dayNumber, oneOfThree, threeCash, compensatedFor, boughtInTwo, twoPenalties, paidInFull, targetShown}
 
 -- the n-th clearing day is found by counting the clearing days up to it
 nth : (cs : List Day) (j e n : ℕ) → j ≤ e → e ≤ lastDay → clearing cs (day e) ≡ true → clearingWithin cs j (e - j) ≡ n →
@@ -242,9 +245,15 @@ example-10-words =
     ap (λ (b : Book). twoBought (closeWords (bookAfter b (closeAt 100000 0 ∷ auctionOffers)) 100000 0 (replicate 1152 0))) ten-later
     ∙ words-there
 
+-- X13, Settled examples: the closed days of 2000
+pub example-13 : targetShown 2000 ≡ 0 ∷ 6 ∷ 0 ∷ 111 ∷ 114 ∷ 121 ∷ 359 ∷ 360 ∷ 9 ∷ []
+unfolding total isLeap monthsOf daysOfYears newYear dateOf sunCorrection moonCorrection plainEpact epact marchMoon fullMoon sundayFrom easter
+    goodFriday easterMonday closedIn closedFrom targetDays targetRefusals target targetWords answer
+example-13 = refl
+
 -- ---- the table
 -- in every row, what the definitions give is what is settled
 pub settled : Every (λ r. r .computed ≡ r .settled) table
 unfolding rules
 settled =
-    also refl (also refl (also refl (also refl (also refl (also refl (also refl (also refl (also refl (also example-9 (also refl (also refl (also refl (also refl (also (example-3 .0) (also (example-3 .1) (also example-4 (also example-5 (also example-6 (also example-7 (also example-8 (also refl (also example-10 (also example-11 (also (ap₂ _++_ (example-12 .0) (example-12 .1)) nobody))))))))))))))))))))))))
+    also refl (also refl (also refl (also refl (also refl (also refl (also refl (also refl (also refl (also example-9 (also refl (also refl (also refl (also refl (also (example-3 .0) (also (example-3 .1) (also example-4 (also example-5 (also example-6 (also example-7 (also example-8 (also refl (also example-10 (also example-11 (also (ap₂ _++_ (example-12 .0) (example-12 .1)) (also example-13 nobody)))))))))))))))))))))))))

@@ -9,6 +9,7 @@ use Rattle.calendar.specs.declared.NextDay.{NextDay}
 use Rattle.calendar.specs.declared.NextDay.the-variants.{At, Never}
 use Rattle.calendar.specs.Closed.{day}
 use Rattle.calendar.specs.Days.{clearingDays, nthAfter}
+use Rattle.holidays.specs.Target.{target, targetWords}
 use Rattle.amounts.specs.Amounts.{penalty, compensation, cash, cashOfEach, charge, amountsMatch, aboveCap}
 use Rattle.netting.specs.Shares.{shares}
 use Rattle.offers.specs.declared.Offer.{Offer}
@@ -93,7 +94,12 @@ twoPenalties = (0 ∷ 2 ∷ []) ++ (1 ∷ 0 ∷ 200 ∷ 200 ∷ 0 ∷ 0 ∷ []) 
 abbrev pub paidInFull : List ℕ
 paidInFull = accepted 5 ++ 0 ∷ 200 ∷ 100 ∷ 0 ∷ []
 
--- X1 to X12, Settled examples: first by the definitions that each example speaks of, then as calls after an Open
+-- X13, Settled examples: what a Target for one year shows that is lent seven words, each of them 9: its answer number,
+-- how many days it wrote, and the words
+abbrev pub targetShown : ℕ → List ℕ
+targetShown year = target year year 7 .answer ∷ target year year 7 .count ∷ targetWords year year (replicate 7 9)
+
+-- X1 to X13, Settled examples: first by the definitions that each example speaks of, then as calls after an Open
 abbrev pub table : List Row
 table =
     record { item = 1; computed = penalty 1000 100000 10 ∷ []; settled = 1000 ∷ [] }
@@ -169,4 +175,5 @@ table =
       settled = accepted 4 ++ twoPenalties ++ (0 ∷ []) ++ twoPenalties;
     }
     ∷ record { item = 12; computed = monthsPlayed; settled = paidInFull ++ paidInFull }
+    ∷ record { item = 13; computed = targetShown 2000; settled = 0 ∷ 6 ∷ 0 ∷ 111 ∷ 114 ∷ 121 ∷ 359 ∷ 360 ∷ 9 ∷ [] }
     ∷ []

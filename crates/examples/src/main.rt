@@ -175,6 +175,22 @@ fn charges() -> u64
         + compared(10, amounts::charge_for(5, 101_000, second), 5_000)
 }
 
+// Example 13: the closed days of 2000, and a word behind them.
+fn closed_days() -> u64
+    ensures { λ r. ⌜ r ≡ 0 ⌝ }
+{
+    let mut days = [9u64; 7];
+    let written = holidays::target(2_000, 2_000, &mut days);
+    compared(13, written.count as u64, 6)
+        + compared(13, days[0], 0)
+        + compared(13, days[1], 111)
+        + compared(13, days[2], 114)
+        + compared(13, days[3], 121)
+        + compared(13, days[4], 359)
+        + compared(13, days[5], 360)
+        + compared(13, days[6], 9)
+}
+
 fn main() {
     let differ = rounded_amounts()
         + limits()
@@ -182,7 +198,8 @@ fn main() {
         + months()
         + clearing_days()
         + auction()
-        + charges();
+        + charges()
+        + closed_days();
     io::write_all(
         STDOUT_FILENO,
         b"the examples that are calls, played from an Open\n",

@@ -5,7 +5,8 @@ use mathlib.Core.Path.{_≡_, refl, sym, ap, _∙_}
 use mathlib.Core.Bool.{Bool, true, false, not}
 use mathlib.Core.List.{List, []}
 use lib.Dec.{leb, ltb}
-use lib.ListN.{length}
+use lib.ListN.{length, take, drop}
+use lib.Seq.{take-append-seam}
 use borrow.Author.Tests.{leb-true, leb-false, ltb-false, le-leb, lt-leb, lt-ltb, le-ltb}
 use Rattle.basics.specs.Refusals.{answer, outside}
 use Rattle.basics.proofs.Cases.{or-false}
@@ -88,6 +89,11 @@ module _ (first last : ℕ) where
             ∙ ap (λ (n : ℕ). atFront (closedFrom first n) ws) years
             ∙ done-by (targetRefusals first last (length ws)) (atFront (targetDays first last) ws) (λ n. ws) e,
       )
+
+  -- the words that a Target that is done has counted are the closed days
+  pub days-written : (ws : List ℕ) → targetNumber first last (length ws) ≡ 0 → take (target first last (length ws) .count) (targetWords first last ws) ≡ targetDays first last
+  unfolding target targetWords
+  days-written ws e = rw e (take-append-seam (targetDays first last) (drop (length (targetDays first last)) ws))
 
   -- A Target that is done writes days that Open takes as closed days: they are not too many, and they rise.
   pub open-takes : (words : ℕ) → targetNumber first last words ≡ 0 → closedRefused (targetDays first last) ≡ false
