@@ -180,7 +180,7 @@ fn closed_days() -> u64
     ensures { λ r. ⌜ r ≡ 0 ⌝ }
 {
     let mut days = [9u64; 7];
-    let written = holidays::target(2_000, 2_000, &mut days);
+    let written = holidays::target_days(2_000, 2_000, &mut days);
     compared(13, written.count as u64, 6)
         + compared(13, days[0], 0)
         + compared(13, days[1], 111)

@@ -160,7 +160,7 @@ fn target_answer(first: u64, last: u64, words: usize) -> u64
 }
 
 // Writes the closed days of all years from the first to the last, rising, and returns how many there are.
-pub fn target(first: u64, last: u64, days: &mut [u64]) -> DaysWritten
+pub fn target_days(first: u64, last: u64, days: &mut [u64]) -> DaysWritten
     ensures { λ r. ⌜ r ≡ target first last (length (now (days .entry))) ⌝ }
     ensures { λ r. ⌜ now (days .exit) ≡ targetWords first last (now (days .entry)) ⌝ }
 {

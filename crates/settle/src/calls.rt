@@ -290,14 +290,14 @@ pub fn looked(looked: Looked) -> Answer
 }
 
 // A target takes no book: it writes closed days, with which a book may be opened later.
-pub fn target(a: Asked, words: &mut [u64]) -> Answer
+pub fn target_days(a: Asked, words: &mut [u64]) -> Answer
     requires { ⌜ a .lent ≤ length (now words) ⌝ }
     ensures { λ r. ⌜ r ≡ targets a ⌝ }
     ensures { λ r. ⌜ now (words .exit) ≡ wordsTargeted a (now (words .entry)) ⌝ }
 {
     let lent = a.lent;
     fill(words, lent, a.fill);
-    let done = holidays::target(a.first, a.second, &mut words[..lent]);
+    let done = holidays::target_days(a.first, a.second, &mut words[..lent]);
     let shown = [done.answer, done.count as u64];
     Answer::with_words(&shown, lent)
 }

@@ -68,7 +68,7 @@ fn settle_all(
                 Name::Status => played.answer = calls::shown(played.book.status(a.first)),
                 Name::Account => played.answer = calls::balance(played.book.account(a.first)),
                 Name::Look => played.answer = calls::looked(played.book.look(a.first)),
-                Name::Target => played.answer = calls::target(a, words),
+                Name::Target => played.answer = calls::target_days(a, words),
                 Name::Rules => played.answer = calls::rules(),
             },
             Line::Comment => played.answer = Answer::nothing(),

@@ -17,7 +17,7 @@ shownAt i ns = getD ns i 0
 
 returns : tie.Need-returns
 returns c =
-    let called = c .before .before .before .before .before .before .before .before .before .target in
+    let called = c .before .before .before .before .before .before .before .before .before .target-days in
     let count = ap (λ (r : DaysWritten). r .count) (called .ensures .0) ∙ ap (shownAt 1) example-13 in
     let days = called .ensures .1 in
     omega (

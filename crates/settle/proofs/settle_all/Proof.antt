@@ -176,8 +176,8 @@ month-requires c κs =
     let s = c .before .before .before .before .before .before .before in
     (valid s, asked s .ask .ensures .1 .1, lends s)
 
-target-requires : tie.Need-target-requires Inv-loop μ-loop
-target-requires c κs = lends (c .before .before .before .before .before .before)
+target-days-requires : tie.Need-target-days-requires Inv-loop μ-loop
+target-days-requires c κs = lends (c .before .before .before .before .before .before)
 
 tell-requires : tie.Need-tell-requires Inv-loop μ-loop
 tell-requires c κs = (given (c .before .before) .tells, ready (c .before .before .before) .room)
@@ -255,7 +255,7 @@ settle-all-spec =
     (λ c. search needs) (λ c κs. valid (c .before .before .before .before .before)) (λ c κs. search needs)
     (λ c. search needs) (λ c κs. valid (c .before .before .before .before .before)) (λ c κs. search needs)
     (λ c. search needs) (λ c κs. valid (c .before .before .before .before .before)) (λ c κs. search needs)
-    (λ c. search needs) target-requires
+    (λ c. search needs) target-days-requires
     (λ c. search needs) (λ c κs. search needs)
     (λ c. search needs) (λ c κs. search needs)
     (λ c. search needs) (λ c κs. search needs)
