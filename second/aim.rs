@@ -10,11 +10,12 @@ use crate::journal::{NAMES, RULES};
 use crate::{Cast, Generator};
 
 /// Numbers at and beside every limit of the rules, and at the ends of the machine's words.
-const EDGES: [u64; 62] = [
+const EDGES: [u64; 69] = [
     0,
     1,
     2,
     3,
+    5,
     6,
     7,
     8,
@@ -22,6 +23,8 @@ const EDGES: [u64; 62] = [
     31,
     32,
     33,
+    48,
+    54,
     63,
     64,
     65,
@@ -40,6 +43,10 @@ const EDGES: [u64; 62] = [
     1_151,
     1_152,
     1_153,
+    1_999,
+    2_000,
+    2_178,
+    2_179,
     4_096,
     4_097,
     50_000,
@@ -85,6 +92,7 @@ fn limits(name: &str) -> &'static [u64] {
         "offer" => &[63, 999, 100_000, 200_000],
         "close" => &[150_000, 100, 4_096, u64::MAX],
         "again" => &[4_096, u64::MAX],
+        "target" => &[2_178, 2_178, 4_096, u64::MAX],
         "open" => &[65_535, 1],
         "status" => &[63],
         _ => &[31],
@@ -204,9 +212,13 @@ impl<W: Write> Generator<W> {
 
     /// Begins a new life with a new cast.
     pub fn open_book(&mut self, first: u64, terms: u64) -> io::Result<()> {
-        self.cast = self.new_cast();
+        self.change_cast();
         let arguments = self.open_arguments(first, terms);
         self.call("open", &arguments).map(|_| ())
+    }
+
+    pub fn change_cast(&mut self) {
+        self.cast = self.new_cast();
     }
 
     fn new_cast(&mut self) -> Cast {
@@ -566,6 +578,7 @@ impl<W: Write> Generator<W> {
             "close" => self.close_arguments(),
             "month" => self.month_arguments(),
             "again" => self.again_arguments(),
+            "target" => self.target_arguments(),
             "status" => vec![self.obligation() as u64],
             "rules" => vec![],
             _ => vec![self.party()],
@@ -625,14 +638,18 @@ impl<W: Write> Generator<W> {
         }
         let mut arguments = self.arguments(name);
         let length = match name {
-            "close" => Some(2),
+            "close" | "target" => Some(2),
             "again" => Some(0),
             _ => None,
         };
         if let Some(place) = length.filter(|_| self.random.percent(40)) {
-            arguments[place] = self
-                .random
-                .pick(&[0, 1, 31, 33, 1_151, 1_152, 4_096, 4_097]);
+            arguments[place] = if name == "target" {
+                self.random
+                    .pick(&[0, 5, 6, 7, 47, 48, 49, 53, 54, 60, 4_096, 4_097])
+            } else {
+                self.random
+                    .pick(&[0, 1, 31, 33, 1_151, 1_152, 4_096, 4_097])
+            };
         }
         if name != "month" || self.random.percent(30) {
             self.spoil(name, &mut arguments);

@@ -2,7 +2,7 @@
 //!
 //! "Rules" in the comments names a chapter of the rules and an item of it, "P1" or "P2" the change
 //! request of that number. Every call tests its refusals in rising order of their numbers and changes
-//! the book only when it is accepted.
+//! the book only when it is accepted. The call of P3 takes no book; it is in `holidays.rs`.
 
 use std::cmp::Reverse;
 use std::ops::RangeInclusive;
@@ -44,7 +44,7 @@ pub type Refusal = u8;
 pub type Accounts = [i64; MEMBERS];
 
 /// Refuses with the number given if its condition holds.
-fn refuse_if(number: Refusal, holds: bool) -> Result<(), Refusal> {
+pub fn refuse_if(number: Refusal, holds: bool) -> Result<(), Refusal> {
     if holds {
         Err(number)
     } else {
@@ -71,7 +71,7 @@ pub struct Calendar {
 }
 
 /// Remainder 2 to 6 by 7.
-fn is_weekday(day: u64) -> bool {
+pub fn is_weekday(day: u64) -> bool {
     (2..=6).contains(&(day % 7))
 }
 

@@ -161,15 +161,22 @@ impl<W: Write> Generator<W> {
 
 #[cfg(test)]
 mod tests {
+    use std::sync::OnceLock;
+
     use super::*;
     use crate::journal::{is_comment, CallSet};
 
     const SEEDS: u64 = 70;
 
+    fn generated(seed: u64, length: u64, calls: CallSet) -> Generator<Vec<u8>> {
+        let mut generator = Generator::new(seed, length, calls, Vec::new());
+        generator.write_all(Ending::of_seed(seed)).unwrap();
+        generator
+    }
+
     /// A short journal, its last line apart, and the book before that line.
     fn journal(seed: u64, calls: CallSet) -> (Vec<u8>, Vec<u8>, Player) {
-        let mut generator = Generator::new(seed, 300, calls, Vec::new());
-        generator.write_all(Ending::of_seed(seed)).unwrap();
+        let generator = generated(seed, 300, calls);
         let mut text = generator.out;
         let start = text.iter().rposition(|&byte| byte == b'\n').unwrap() + 1;
         let last = text.split_off(start);
@@ -242,18 +249,22 @@ mod tests {
     #[test]
     fn no_calls_make_an_empty_text() {
         for seed in 0..7 {
-            let mut generator = Generator::new(seed, 0, CallSet::all(), Vec::new());
-            generator.write_all(Ending::of_seed(seed)).unwrap();
-            assert!(generator.out.is_empty());
+            assert!(generated(seed, 0, CallSet::all()).out.is_empty());
         }
     }
 
-    /// Whether a line of any of the journals has the property.
+    /// Whether a line of any of some long journals has the property.
     fn any_line(holds: impl Fn(&[u8]) -> bool) -> bool {
-        (0..SEEDS).any(|seed| {
-            let (text, _, _) = journal(seed, CallSet::all());
-            text.split(|&byte| byte == b'\n').any(&holds)
-        })
+        static TEXTS: OnceLock<Vec<Vec<u8>>> = OnceLock::new();
+        let texts = TEXTS.get_or_init(|| {
+            (0..20)
+                .map(|seed| generated(seed, 5_000, CallSet::all()).out)
+                .collect()
+        });
+        let mut lines = texts
+            .iter()
+            .flat_map(|text| text.split(|&byte| byte == b'\n'));
+        lines.any(holds)
     }
 
     #[test]
@@ -283,6 +294,35 @@ mod tests {
             b"month 0 32",
             b"month 0 32 ",
             b"month 0 32 7 7",
+        ] {
+            assert!(any_line(|written| written == line), "{line:?}");
+        }
+    }
+
+    #[test]
+    fn targets_have_lists_of_all_lengths() {
+        for start in [
+            &b"target 2000 2000 5 "[..],
+            b"target 2000 2000 6 ",
+            b"target 2000 2007 48 ",
+            b"target 2000 2007 4096 ",
+            b"target 2000 2008 53 ",
+            b"target 2000 2008 54 ",
+            b"target 2001 2000 0 ",
+            b"target 18446744073709551615 0 0 ",
+            b"target 0 18446744073709551615 4096 ",
+        ] {
+            assert!(any_line(|written| written.starts_with(start)), "{start:?}");
+        }
+    }
+
+    #[test]
+    fn targets_are_written_wrongly_too() {
+        for line in [
+            &b"target"[..],
+            b"target 2000 2000 6",
+            b"target 2000 2000 6 0 0",
+            b"target 2000 2000 4097 0",
         ] {
             assert!(any_line(|written| written == line), "{line:?}");
         }

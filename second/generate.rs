@@ -2,12 +2,14 @@
 //!
 //! The generator plays its own journal on the book, so that it can aim: it knows the waiting legs,
 //! the open obligations, their ages and the accounts. `aim` makes plausible calls and spoils them,
-//! `scenario` and `paid` string them together, `malformed` makes lines that are no calls, `ending`
-//! makes the last line.
+//! `scenario`, `paid` and `closed_days` string them together, `malformed` makes lines that are no calls,
+//! `ending` makes the last line.
 
 mod aim;
 mod book;
+mod closed_days;
 mod ending;
+mod holidays;
 mod journal;
 mod malformed;
 mod paid;
@@ -46,7 +48,8 @@ pub struct Generator<W: Write> {
     written: u64,
     limit: u64,
     cast: Cast,
-    /// In so many of a hundred cases a call is followed by a reading, and by noise.
+    /// In so many of a hundred cases a call is followed by a Target, by a reading, and by noise.
+    targets: u64,
     readings: u64,
     noise: u64,
     /// The lines that are to be written once more, while they are recorded.
@@ -69,6 +72,7 @@ impl<W: Write> Generator<W> {
                 quantities: vec![1],
                 delays: vec![0],
             },
+            targets: 10,
             readings: 30,
             noise: 5,
             recorded: None,
@@ -127,10 +131,14 @@ impl<W: Write> Generator<W> {
         self.line(line.as_bytes())
     }
 
-    /// Writes a call and, now and then, readings and noise after it.
+    /// Writes a call and, now and then, a Target, readings and noise after it.
     fn call(&mut self, name: &str, arguments: &[u64]) -> io::Result<Option<Refusal>> {
         let answer = self.bare_call(name, arguments)?;
         if answer.is_some() {
+            if self.random.percent(self.targets) {
+                let arguments = self.target_arguments();
+                self.bare_call("target", &arguments)?;
+            }
             while self.random.percent(self.readings) && !self.is_done() {
                 self.reading()?;
             }
@@ -143,6 +151,10 @@ impl<W: Write> Generator<W> {
 
     /// Writes the journal. A journal of no calls is an empty text.
     fn write_all(&mut self, ending: Ending) -> io::Result<()> {
+        // A Target needs no book.
+        if self.random.percent(50) {
+            self.targets()?;
+        }
         // The book before the first Open is a book too: it can have Closes, and show them again, and
         // it can have Months.
         if self.random.percent(50) {

@@ -2,10 +2,11 @@
 
 use std::fmt::Write;
 
-use crate::book::{Accounts, Line, Refusal};
+use crate::book::{Accounts, Book, Refusal};
 use crate::journal::{Call, CallSet, NAMES, RULES};
 use crate::month_traps::MonthTraps;
 use crate::play::Player;
+use crate::target_traps::TargetTraps;
 use crate::traps::Traps;
 
 /// The answer numbers that each call can give, in the order of the names.
@@ -22,11 +23,26 @@ const ANSWERS: [&[Refusal]; NAMES.len()] = [
     &[0, 1],
     &[0, 1],
     &[0, 5, 22],
+    &[0, 5, 23],
     &[0],
 ];
 const CLOSE: usize = 6;
 const MONTH: usize = 7;
 const AGAIN: usize = 11;
+const TARGET: usize = 12;
+
+/// A call that was played.
+pub struct Played<'a> {
+    pub call: &'a Call<'a>,
+    /// The call's place among the names.
+    pub place: usize,
+    pub answer: Refusal,
+    /// The accounts and the day just before the call.
+    pub accounts: &'a Accounts,
+    pub today: u64,
+    /// The book after it.
+    pub book: &'a Book,
+}
 
 /// What a torn last line says, though it is no call.
 #[derive(Clone, Copy)]
@@ -46,6 +62,7 @@ pub struct Hits {
     kinds: [u64; 5],
     again_traps: Traps,
     month_traps: MonthTraps,
+    target_traps: TargetTraps,
     malformed: u64,
     torn: [u64; TORN.len()],
     whole: u64,
@@ -59,6 +76,7 @@ impl Hits {
             kinds: [0; 5],
             again_traps: Traps::default(),
             month_traps: MonthTraps::default(),
+            target_traps: TargetTraps::new(),
             malformed: 0,
             torn: [0; TORN.len()],
             whole: 0,
@@ -68,16 +86,28 @@ impl Hits {
 
     /// Has a call played and counts it.
     pub fn play(&mut self, player: &mut Player, call: Call, out: &mut Vec<u8>) {
-        // The call may change the accounts, and the traps go by what they were before it.
-        let accounts = player.book.accounts;
+        // The call may change the accounts and the day, and the traps go by what they were before it.
+        let (accounts, today) = (player.book.accounts, player.book.today);
         let answer = player.play(call, out);
-        self.call(&call, answer, &accounts, player.book.lines_to_show());
+        self.call(&Played {
+            call: &call,
+            place: index(&call),
+            answer,
+            accounts: &accounts,
+            today,
+            book: &player.book,
+        });
     }
 
-    /// A call that was played. The accounts are those just before it, the lines are those of the
-    /// latest accepted Close after it.
-    fn call(&mut self, call: &Call, answer: Refusal, accounts: &Accounts, lines: &[Line]) {
-        let place = index(call);
+    fn call(&mut self, played: &Played) {
+        let &Played {
+            call,
+            place,
+            answer,
+            accounts,
+            ..
+        } = played;
+        let lines = played.book.lines_to_show();
         self.answers[place][usize::from(answer)] += 1;
         if place == CLOSE && answer == 0 {
             for line in lines {
@@ -86,6 +116,7 @@ impl Hits {
         }
         self.again_traps.call(place, call, answer, lines.len());
         self.month_traps.call(call, answer, accounts);
+        self.target_traps.call(played);
     }
 
     /// A whole line that is no call; the torn ones are counted apart.
@@ -104,8 +135,8 @@ impl Hits {
     }
 
     /// One line for each pair of a call and an answer it can give, also for those not reached,
-    /// for the kinds of a Close's lines and the traps of Again and Month, and for the lines that are
-    /// no calls and the ways in which a journal can end.
+    /// for the kinds of a Close's lines and the traps of Again, Month and Target, and for the lines that
+    /// are no calls and the ways in which a journal can end.
     pub fn table(&self, calls: &CallSet) -> String {
         let mut table = String::new();
         let mut row =
@@ -135,6 +166,11 @@ impl Hits {
                 row(format_args!("trap {trap} {count}"));
             }
         }
+        if calls.has(TARGET) {
+            for (trap, count) in self.target_traps.rows() {
+                row(format_args!("trap {trap} {count}"));
+            }
+        }
         row(format_args!("malformed {}", self.malformed));
         for (says, count) in TORN.iter().zip(self.torn) {
             row(format_args!("torn {says} {count}"));
@@ -160,6 +196,7 @@ fn index(call: &Call) -> usize {
         Call::Account { .. } => 9,
         Call::Look { .. } => 10,
         Call::Again { .. } => AGAIN,
+        Call::Target { .. } => TARGET,
         Call::Rules => RULES,
     }
 }
@@ -213,6 +250,9 @@ mod tests {
             "trap again-192-lines 0",
             "trap month-empty-large 0",
             "trap month-pair-21 0",
+            "target 23 0",
+            "trap target-all-years 0",
+            "trap target-open-eight-years 0",
             "torn comment 0",
             "end 0",
         ] {
@@ -222,15 +262,17 @@ mod tests {
 
     #[test]
     fn a_call_that_is_not_listed_has_no_traps() {
-        for (list, again, month) in [
-            ("open,close,rules", false, false),
-            ("open,close,again", true, false),
-            ("open,close,month", false, true),
+        for (list, traps) in [
+            ("open,close,rules", [false, false, false]),
+            ("open,close,again", [true, false, false]),
+            ("open,close,month", [false, true, false]),
+            ("open,close,target", [false, false, true]),
         ] {
             let calls = CallSet::listed(list).unwrap();
             let table = Hits::new().table(&calls);
-            assert_eq!(table.contains("trap again-"), again, "{list}");
-            assert_eq!(table.contains("trap month-"), month, "{list}");
+            let listed =
+                ["again", "month", "target"].map(|name| table.contains(&format!("trap {name}-")));
+            assert_eq!(listed, traps, "{list}");
         }
     }
 }

@@ -6,12 +6,13 @@ const MAX_LIST: u64 = 4_096;
 pub const MAX_LINE: usize = 65_536;
 
 /// The names of all calls; a call is known by its place here.
-pub const NAMES: [&str; 13] = [
+pub const NAMES: [&str; 14] = [
     "open", "enter", "withdraw", "cancel", "deliver", "offer", "close", "month", "status",
-    "account", "look", "again", "rules",
+    "account", "look", "again", "target", "rules",
 ];
-/// The place of `rules`, which is no call on the book: those stand before it.
-pub const RULES: usize = 12;
+/// The place of `rules`, which takes no arguments: the calls that take some stand before it. Neither
+/// it nor `target` is a call on the book.
+pub const RULES: usize = 13;
 
 /// The calls that exist.
 #[derive(Clone, Copy)]
@@ -92,6 +93,12 @@ pub enum Call<'a> {
         member: u64,
     },
     Again {
+        words: usize,
+        fill: u64,
+    },
+    Target {
+        first: u64,
+        last: u64,
         words: usize,
         fill: u64,
     },
@@ -178,6 +185,12 @@ fn with_arguments<'a>(name: &str, numbers: &'a [u64]) -> Option<Call<'a>> {
             words: list_length(n)?,
             fill,
         },
+        ("target", &[first, last, n, fill]) => Call::Target {
+            first,
+            last,
+            words: list_length(n)?,
+            fill,
+        },
         ("rules", &[]) => Call::Rules,
         _ => return None,
     })
@@ -219,6 +232,10 @@ mod tests {
         assert_eq!(
             parsed("again 4096 7").unwrap(),
             "Again { words: 4096, fill: 7 }"
+        );
+        assert_eq!(
+            parsed("target 2000 18446744073709551615 4096 7").unwrap(),
+            "Target { first: 2000, last: 18446744073709551615, words: 4096, fill: 7 }"
         );
         assert_eq!(parsed("rules").unwrap(), "Rules");
         assert_eq!(NAMES[RULES], "rules");
@@ -285,6 +302,29 @@ mod tests {
     }
 
     #[test]
+    fn a_target_has_two_years_a_length_and_a_fill() {
+        assert_no_calls(&[
+            "target",
+            "target 2000",
+            "target 2000 2000",
+            "target 2000 2000 6",
+            "target 2000 2000 6 ",
+            "target 2000  2000 6 0",
+            "target 2000 2000 6 0 0",
+            "target 2000 2000 2 7 7",
+            "target 2000 2000 4097 0",
+            "target 2000 2000 18446744073709551615 0",
+            "target 18446744073709551616 2000 6 0",
+            "target 2000 18446744073709551616 6 0",
+            "target 2000 2000 6 18446744073709551616",
+            "target 2000-2000 6 0",
+            "target -2000 2000 6 0",
+            "Target 2000 2000 6 0",
+            "targets 2000 2000 6 0",
+        ]);
+    }
+
+    #[test]
     fn rules_takes_no_argument() {
         assert_no_calls(&[
             "rules 0", "rules ", " rules", "rules\r", "rules\0", "Rules", "rule",
@@ -294,7 +334,6 @@ mod tests {
     #[test]
     fn calls_of_later_editions_are_none() {
         assert_no_calls(&[
-            "target 2000 2000 6 0",
             "rate 2 10",
             "rate 2 10 10",
             "close 100000 1152 0",
@@ -321,6 +360,9 @@ mod tests {
         let mut numbers = Vec::new();
         assert!(parse(b"look 1", &calls, &mut numbers).is_some());
         assert!(parse(b"account 1", &calls, &mut numbers).is_none());
+        assert!(parse(b"target 2000 2000 6 0", &calls, &mut numbers).is_none());
+        let calls = CallSet::listed("target").unwrap();
+        assert!(parse(b"target 2000 2000 6 0", &calls, &mut numbers).is_some());
         assert!(CallSet::listed("open,lok").is_err());
     }
 }

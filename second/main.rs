@@ -1,12 +1,15 @@
 //! `second`: plays a journal of a settlement discipline book, or checks another program's answers.
 
+mod after_target;
 mod book;
 mod check;
 mod hits;
+mod holidays;
 mod journal;
 mod lines;
 mod month_traps;
 mod play;
+mod target_traps;
 mod traps;
 mod twins;
 
@@ -273,9 +276,9 @@ mod tests {
     fn the_end_counts_every_line() {
         assert_eq!(answers(b""), "end 0\n");
         assert_eq!(answers(b"\n"), "end 1\n");
-        assert_eq!(answers(b"#\n\nrules\nx\n"), "0 2\n? line 4\nend 4\n");
-        assert_eq!(answers(b"rules\n#"), "0 2\nend 2\n");
-        assert_eq!(answers(b"rules\n\nx"), "0 2\n? line 3\nend 3\n");
+        assert_eq!(answers(b"#\n\nrules\nx\n"), "0 3\n? line 4\nend 4\n");
+        assert_eq!(answers(b"rules\n#"), "0 3\nend 2\n");
+        assert_eq!(answers(b"rules\n\nx"), "0 3\n? line 3\nend 3\n");
     }
 
     #[test]
@@ -642,6 +645,301 @@ mod tests {
         assert_eq!(pairs, ["trap month-pair-done 1"]);
     }
 
+    fn assert_target_traps(journal: &str, traps: &[&str]) {
+        assert_traps_named("trap target-", journal, traps);
+    }
+
+    /// Checks the traps of each journal after an Open.
+    fn assert_target_traps_of(journals: &[(&str, &[&str])]) {
+        for (journal, traps) in journals {
+            assert_target_traps(&format!("open 2 1 0\n{journal}\n"), traps);
+        }
+    }
+
+    #[test]
+    fn the_traps_of_targets_with_a_short_list_are_counted() {
+        assert_target_traps_of(&[
+            ("target 1999 1999 5 9", &["5-early-not-23"]),
+            ("target 1992 1999 47 9", &["5-early-not-23"]),
+            ("target 1991 1999 47 9", &[]),
+            ("target 2179 2179 5 9", &["5-late-not-23"]),
+            ("target 1999 2000 5 9", &[]),
+            ("target 2000 2009 59 9", &["5-many-not-23"]),
+            (
+                "target 2000 2008 48 9",
+                &["5-many-not-23", "5-nine-of-48-not-23"],
+            ),
+            (
+                "target 2170 2178 53 9",
+                &["5-many-not-23", "5-nine-of-53-not-23"],
+            ),
+            (
+                "target 2000 2178 1073 9",
+                &["5-many-not-23", "5-179-years-of-1073-not-23"],
+            ),
+            ("target 2000 2682 4096 9", &["5-683-years-of-4096-not-23"]),
+            ("target 2000 2000 0 0", &["5-one-of-0"]),
+            ("target 2178 2178 5 9", &["5-one-of-5"]),
+            ("target 2000 2000 5 111", &["5-one-of-5", "5-fill-of-day"]),
+            ("target 2171 2178 47 9", &["5-eight-of-47"]),
+            ("target 2171 2178 46 9", &[]),
+        ]);
+    }
+
+    #[test]
+    fn the_traps_of_targets_with_too_many_years_for_a_word_are_counted() {
+        assert_target_traps_of(&[
+            (
+                "target 0 18446744073709551615 4096 9",
+                &["5-all-numbers-of-4096-not-23"],
+            ),
+            (
+                "target 0 18446744073709551615 0 9",
+                &["5-all-numbers-of-0-not-23"],
+            ),
+            ("target 0 18446744073709551615 48 9", &[]),
+            (
+                "target 0 18446744073709551614 48 9",
+                &["5-sixfold-passes-not-23"],
+            ),
+            // 2^64 / 6 is 3,074,457,345,618,258,602 and two thirds.
+            (
+                "target 0 3074457345618258601 48 9",
+                &["5-sixfold-fits-not-23"],
+            ),
+            (
+                "target 1 3074457345618258603 2 9",
+                &["5-sixfold-passes-not-23", "5-sixfold-wraps-not-23"],
+            ),
+            (
+                "target 1 3074457345618258603 1 9",
+                &["5-sixfold-passes-not-23"],
+            ),
+            ("target 2000 4294969295 0 9", &["5-sixfold-wraps-32-not-23"]),
+            ("target 2000 4294969294 0 9", &[]),
+        ]);
+    }
+
+    #[test]
+    fn the_traps_of_targets_with_wrong_years_are_counted() {
+        assert_target_traps_of(&[
+            ("target 1999 1999 6 9", &["23-year-1999"]),
+            ("target 2179 2179 9 9", &["23-year-2179"]),
+            ("target 1998 1998 6 9", &[]),
+            ("target 1999 2001 18 9", &["23-1999-to-2001"]),
+            ("target 1999 2006 48 9", &["23-1999-to-2006"]),
+            ("target 2172 2179 48 9", &["23-2172-to-2179"]),
+            ("target 2001 2009 54 9", &["23-nine-of-54"]),
+            ("target 2001 2009 55 9", &[]),
+            ("target 2000 2178 1074 9", &["23-179-years-of-1074"]),
+            ("target 2000 2681 4096 9", &["23-682-years-of-4096"]),
+            (
+                "target 2002 2000 0 9",
+                &["23-reversed-of-0", "23-reversed-inside-of-0"],
+            ),
+            (
+                "target 2001 2000 0 9",
+                &["23-reversed-by-1-of-0", "23-reversed-inside-of-0"],
+            ),
+            ("target 1 0 0 9", &["23-reversed-by-1-of-0"]),
+            (
+                "target 18446744073709551615 0 0 9",
+                &["23-reversed-of-0", "23-reversed-most-of-0"],
+            ),
+            ("target 18446744073709551615 0 12 9", &[]),
+            ("target 2007 2000 47 9", &[]),
+            ("target 2007 2000 48 9", &["23-reversed-enough"]),
+        ]);
+    }
+
+    #[test]
+    fn the_traps_of_targets_that_are_done_are_counted() {
+        assert_target_traps_of(&[
+            ("target 2010 2010 6 9", &["one-of-6"]),
+            ("target 2010 2010 7 9", &["one-of-7"]),
+            ("target 2010 2010 8 9", &[]),
+            ("target 2010 2017 48 9", &["eight-of-48"]),
+            ("target 2010 2017 49 9", &["eight-of-49"]),
+            ("target 2010 2017 4096 9", &["eight-of-4096"]),
+            (
+                "target 2000 2000 6 9",
+                &["one-of-6", "year-2000", "epact-2000"],
+            ),
+            ("target 2178 2178 8 9", &["year-2178"]),
+            ("target 2000 2007 50 9", &["2000-to-2007", "epact-2000"]),
+            ("target 2171 2178 50 9", &["2171-to-2178"]),
+            ("target 2044 2049 36 9", &["epact-2049"]),
+            ("target 2076 2077 12 9", &["epact-2076"]),
+            ("target 2100 2106 42 9", &["epact-2106", "century-2100"]),
+            ("target 2133 2133 9 9", &["epact-2133"]),
+            // 1 January 2011 is day 4,018.
+            ("target 2010 2010 8 4018", &["fill-of-next-day"]),
+            ("target 2011 2011 8 4018", &["fill-of-day"]),
+            ("target 2010 2011 12 4018", &[]),
+        ]);
+    }
+
+    #[test]
+    fn the_traps_of_targets_in_turn_are_counted() {
+        let (two, one) = ("target 2010 2011 12 9\n", "target 2012 2012 8 9\n");
+        assert_target_traps_of(&[
+            (&format!("{two}{one}"), &["fewer-days"]),
+            (&format!("{one}{two}"), &[]),
+            (&format!("{two}look 0\n{one}"), &[]),
+            (
+                &format!("{two}target 2012 2012 5 9"),
+                &["5-one-of-5", "5-after-done"],
+            ),
+            (&format!("{two}target 1998 1998 6 9"), &["23-after-done"]),
+            (
+                &format!("{two}target 1998 1998 5 9\ntarget 1998 1998 6 9"),
+                &["5-early-not-23", "5-after-done"],
+            ),
+        ]);
+        assert_target_traps("target 2012 2012 8 9\n", &["before-open"]);
+        assert_target_traps("target 1998 1998 8 9\n", &["refused-before-open"]);
+        assert_target_traps("open 2 2 0\ntarget 2012 2012 8 9\n", &[]);
+    }
+
+    #[test]
+    fn all_years_are_counted_once() {
+        let all: String = (0..60)
+            .map(|third| 2_000 + 3 * third)
+            .map(|first| format!("target {first} {} 18 9\n", 2_178.min(first + 2)))
+            .collect();
+        let is_counted = |journal: &str| {
+            let rows = met(journal.as_bytes());
+            rows.contains(&"trap target-all-years 1".to_string())
+        };
+        assert!(is_counted(&all));
+        assert!(is_counted(&all.repeat(2)));
+        let (_, most) = all.split_once('\n').unwrap();
+        assert!(!is_counted(most));
+    }
+
+    #[test]
+    fn a_target_between_two_calls_is_counted() {
+        let done = "target 2010 2010 8 9\n";
+        for (journal, traps) in [
+            (
+                format!("status 0\n{done}deliver 0 1\n"),
+                &["between", "then-deliver"][..],
+            ),
+            (
+                format!("status 0\n{done}{done}cancel 0 0\n"),
+                &["between", "then-cancel"],
+            ),
+            (format!("{done}account 0\n"), &["between", "then-account"]),
+            (format!("{done}account 3\n"), &[]),
+            (format!("{done}look 0\n"), &["between", "then-look"]),
+            (format!("{done}look 1\n"), &[]),
+            (format!("{done}again 1152 0\n"), &["between", "then-again"]),
+            (
+                format!("{done}close 1 1 1152 0\n"),
+                &["between", "then-close"],
+            ),
+            (format!("{done}month 0 32 0\n"), &["between", "then-month"]),
+            (format!("{done}status 0\n"), &["between", "then-status"]),
+            (format!("{done}status 1\n"), &[]),
+            (format!("status 1\n{done}status 0\n"), &[]),
+            (format!("rules\n{done}status 0\n"), &[]),
+            (format!("{done}rules\nstatus 0\n"), &[]),
+            (
+                format!("enter 5 6 0 3 1 3\n{done}withdraw 2 5\n"),
+                &["between", "then-withdraw"],
+            ),
+            (
+                format!("enter 5 6 0 3 1 3\n{done}enter 6 5 1 3 1 3\n"),
+                &["between", "then-enter"],
+            ),
+            (format!("enter 5 6 0 3 1 3\n{done}enter 6 5 1 4 1 3\n"), &[]),
+            (
+                "target 2010 2010 4 9\nstatus 0\n".to_string(),
+                &["5-between", "then-status"],
+            ),
+            (
+                "target 1998 1998 6 9\nstatus 0\n".to_string(),
+                &["23-between", "then-status"],
+            ),
+        ] {
+            assert_target_traps(&format!("open 2 1 0\n{OWED}{journal}"), traps);
+        }
+        let closes = "close 100000 100 1152 0\n".repeat(10);
+        assert_target_traps(
+            &format!("open 2 1 0\n{OWED}{closes}{done}offer 0 7 1 1\n"),
+            &["between", "then-offer"],
+        );
+    }
+
+    /// A Target for a year or eight, and an Open with the days that it writes.
+    fn opened_by_target(last: u64, first_day: u64, terms: u64) -> String {
+        let days = holidays::closed_days(2_010, last);
+        let list: String = days.iter().map(|day| format!(" {day}")).collect();
+        let count = days.len();
+        format!("target 2010 {last} 60 9\nopen {first_day} {terms} {count}{list}\n")
+    }
+
+    /// Good Friday of 2010, and the Thursday before it.
+    const GOOD_FRIDAY: u64 = 3_744;
+    const THURSDAY: u64 = GOOD_FRIDAY - 1;
+
+    #[test]
+    fn books_opened_with_the_days_of_a_target_are_counted() {
+        for (last, first_day, terms, traps) in [
+            (2_010, THURSDAY, 1, &["open-one-year"][..]),
+            (2_017, THURSDAY, 0, &["open-eight-years"]),
+            (2_011, THURSDAY, 1, &[]),
+            (2_010, THURSDAY, 2, &["open-1"]),
+            (2_010, GOOD_FRIDAY, 1, &["open-11-holiday"]),
+            (2_010, GOOD_FRIDAY + 1, 1, &[]),
+        ] {
+            let journal = opened_by_target(last, first_day, terms);
+            assert_target_traps(&journal, &[&["before-open"], traps].concat());
+            // A call between the two, or a list that is not the Target's.
+            let apart = journal.replace("open", "rules\nopen");
+            assert_target_traps(&apart, &["before-open"]);
+            let years = [(2_010, last), (2_011, last + 1)].map(|(a, b)| format!("target {a} {b}"));
+            let other = journal.replace(&years[0], &years[1]);
+            assert_target_traps(&other, &["before-open"]);
+        }
+    }
+
+    #[test]
+    fn holidays_in_the_life_of_a_book_are_counted() {
+        let opened = opened_by_target(2_010, THURSDAY, 1);
+        let (pair, close) = (
+            "enter 0 1 0 3 1000 3743\nenter 1 0 1 3 1000 3743\n",
+            "close 100000 0 1152 1\n",
+        );
+        let assert_life = |journal: &str, traps: &[&str]| {
+            let first = ["before-open", "open-one-year"];
+            assert_target_traps(&format!("{opened}{journal}"), &[&first, traps].concat());
+            // The same days without a Target before them.
+            let (_, untold) = opened.split_once('\n').unwrap();
+            assert_target_traps(&format!("{untold}{journal}"), &[]);
+        };
+        assert_life("enter 0 1 0 3 1000 3744\n", &["open-enter-11-holiday"]);
+        assert_life("enter 0 1 0 3 1000 3745\n", &[]);
+        assert_life(close, &["open-close-over-holiday"]);
+        assert_life(
+            &format!("{pair}{}", close.repeat(8)),
+            &["open-close-over-holiday", "open-notice-over-holiday"],
+        );
+        assert_life(
+            &format!("{pair}{}", close.repeat(14)),
+            &[
+                "open-close-over-holiday",
+                "open-notice-over-holiday",
+                "open-compensated-over-holiday",
+            ],
+        );
+        // The days of a book that is gone close nothing.
+        assert_life(
+            "open 3743 1 0\nenter 0 1 0 3 1000 3742\nclose 1 1 1152 0\n",
+            &[],
+        );
+    }
+
     #[test]
     fn own_answers_show_no_difference() {
         for journal in [
@@ -657,21 +955,21 @@ mod tests {
 
     #[test]
     fn the_end_is_compared() {
-        let missing = difference(b"rules\n", "0 2\n").unwrap();
+        let missing = difference(b"rules\n", "0 3\n").unwrap();
         assert_eq!(
             missing,
             "line 1: (the end of the journal)\nexpected: end 1\ngiven:    (nothing)\n\
             The last line of the answers is missing.\n"
         );
         assert!(difference(b"", "").unwrap().contains("is missing"));
-        assert!(difference(b"rules\n", "0 2\nend 1")
+        assert!(difference(b"rules\n", "0 3\nend 1")
             .unwrap()
             .ends_with("given:    end 1 (and no line feed)\n"));
         for given in [
-            "0 2\nend 0\n",
-            "0 2\nend 2\n",
-            "0 2\nend 1\n\n",
-            "0 1\nend 1\n",
+            "0 3\nend 0\n",
+            "0 3\nend 2\n",
+            "0 3\nend 1\n\n",
+            "0 2\nend 1\n",
             "end 1\n",
         ] {
             assert!(difference(b"rules\n", given).is_some(), "{given:?}");
@@ -729,7 +1027,7 @@ mod tests {
         let mut run = Run::new(Broken(b"rules\nx\nopen 9 1 0"), CallSet::all());
         let mut out = Vec::new();
         assert!(run.play_all(&mut out).is_err());
-        assert_eq!(out, b"0 2\n? line 2\n");
+        assert_eq!(out, b"0 3\n? line 2\n");
         assert_eq!(run.player.book.today, 2);
     }
 

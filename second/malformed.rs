@@ -48,9 +48,29 @@ const NO_MONTHS: [&str; 14] = [
     "month -0 32 7",
     "month 0 32 7\r",
 ];
+/// A Target has two years, a length and a fill; its list is not typed.
+const NO_TARGETS: [&str; 18] = [
+    "target",
+    "target 2000",
+    "target 2000 2000",
+    "target 2000 2000 6",
+    "target 2000 2000 6",
+    "target 2000 2000 6 ",
+    "target 2000 2000 6 0 0",
+    "target 2000 2000 2 7 7",
+    "target 2000 2000 4097 0",
+    "target 2000 2000 4097 0",
+    "target 2000 2000 18446744073709551615 0",
+    "target 18446744073709551616 2000 6 0",
+    "target 2000 18446744073709551616 6 0",
+    "target 2000 2000 6 18446744073709551616",
+    "target 2000  2000 6 0",
+    "target 2000-2000 6 0",
+    "target 2000 2000 6 0\r",
+    "Target 2000 2000 6 0",
+];
 /// Calls of later editions, which this one does not know.
-const LATER: [&str; 8] = [
-    "target 2000 2000 6 0",
+const LATER: [&str; 7] = [
     "rate 2 10",
     "rate 2 10 10",
     "close 100000 1152 0",
@@ -92,7 +112,7 @@ impl<W: Write> Generator<W> {
         .map(|_| ())
     }
 
-    /// The words of a plausible call on the book, if any may be written.
+    /// The words of a plausible call that takes arguments, if any may be written.
     fn good_words(&mut self) -> Option<Vec<String>> {
         let known: Vec<&str> = NAMES[..RULES]
             .iter()
@@ -116,12 +136,13 @@ impl<W: Write> Generator<W> {
     /// A line with something wrong in its writing. It is no call, except that leading zeros are
     /// right, and that a line of 65,536 bytes is not too long.
     pub fn malformed_line(&mut self) -> io::Result<()> {
-        let line = match (self.random.below(70), self.good_words()) {
+        let line = match (self.random.below(78), self.good_words()) {
             (0, Some(words)) => self.long_line(words),
             (1..=10, _) => self.random.pick(&NO_RULES).to_string(),
             (11..=18, _) => self.random.pick(&LATER).to_string(),
             (19..=22, _) => self.random.pick(&SCRAWLS).to_string(),
             (23..=30, _) => self.random.pick(&NO_MONTHS).to_string(),
+            (31..=38, _) => self.random.pick(&NO_TARGETS).to_string(),
             (_, Some(words)) => self.slip(words),
             _ => return Ok(()),
         };

@@ -1,10 +1,11 @@
 //! Playing calls on one book and writing their answers (the journal format, "Lines out").
 
 use crate::book::{Book, Refusal, LINE_WORDS};
+use crate::holidays;
 use crate::journal::Call;
 
 /// The latest change request in the rules; 0 is the base.
-const EDITION: u64 = 2;
+const EDITION: u64 = 3;
 
 /// A book and the lists that are lent to its calls.
 pub struct Player {
@@ -82,6 +83,12 @@ impl Player {
             Call::Account { member } => put_account(out, book.account(member)),
             Call::Look { member } => put_results(out, book.look(member).map(|found| [found])),
             Call::Again { words, fill } => self.again(words, fill, out),
+            Call::Target {
+                first,
+                last,
+                words,
+                fill,
+            } => self.target(first, last, words, fill, out),
             Call::Rules => put_results(out, Ok([EDITION])),
         }
     }
@@ -118,6 +125,25 @@ impl Player {
             .err()
             .unwrap_or(0);
         put_number(out, answer.into());
+        put_words(out, &self.lent);
+        out.push(b'\n');
+        answer
+    }
+
+    /// P3: the count, and all words of the list as the call left them. The book has no part in it.
+    fn target(
+        &mut self,
+        first: u64,
+        last: u64,
+        words: usize,
+        fill: u64,
+        out: &mut Vec<u8>,
+    ) -> Refusal {
+        self.lend(words, fill);
+        let written = holidays::target(first, last, &mut self.lent);
+        let answer = written.err().unwrap_or(0);
+        put_number(out, answer.into());
+        put_words(out, &[written.unwrap_or(0) as u64]);
         put_words(out, &self.lent);
         out.push(b'\n');
         answer
@@ -270,25 +296,83 @@ mod tests {
         }
     }
 
-    #[test]
-    fn rules_answers_the_edition_and_changes_nothing() {
+    /// Plays a line and writes its answer.
+    fn play_line(player: &mut Player, line: &str, out: &mut Vec<u8>) -> Refusal {
+        let mut numbers = Vec::new();
+        let call = parse(line.as_bytes(), &CallSet::all(), &mut numbers);
+        player.play(call.expect("a call"), out)
+    }
+
+    /// A player whose book has a leg that waits.
+    fn player_with_a_leg() -> Player {
         let mut player = Player::new();
         for line in ["open 9 1 0", "enter 0 1 0 3 1000 9"] {
-            let mut numbers = Vec::new();
-            let call = parse(line.as_bytes(), &CallSet::all(), &mut numbers);
-            player.play(call.expect("a call"), &mut Vec::new());
+            play_line(&mut player, line, &mut Vec::new());
         }
+        player
+    }
+
+    #[test]
+    fn rules_answers_the_edition_and_changes_nothing() {
+        let mut player = player_with_a_leg();
         let (before, mut out) = (player.book.clone(), Vec::new());
         assert_eq!(player.play(Call::Rules, &mut out), 0);
-        assert_eq!(out, b"0 2\n");
+        assert_eq!(out, b"0 3\n");
         assert_eq!(player.book, before);
+    }
+
+    #[test]
+    fn a_target_shows_its_whole_list() {
+        let told = [
+            ("target 2000 2000 6 9", "0 6 0 111 114 121 359 360\n"),
+            ("target 2000 2000 8 9", "0 6 0 111 114 121 359 360 9 9\n"),
+            ("target 2000 2000 5 9", "5 0 9 9 9 9 9\n"),
+            ("target 2000 2000 0 9", "5 0\n"),
+            ("target 1999 1999 6 9", "23 0 9 9 9 9 9 9\n"),
+            ("target 2001 2000 0 9", "23 0\n"),
+            ("target 2001 2000 1 114", "23 0 114\n"),
+        ];
+        // Nothing of the list before is left, whatever the order.
+        let lines = |one: (&str, &str), other: (&str, &str)| {
+            assert_eq!(
+                answers(&format!("{}\n{}\n", one.0, other.0)),
+                format!("{}{}", one.1, other.1)
+            );
+        };
+        for one in told {
+            for other in told {
+                lines(one, other);
+            }
+        }
+    }
+
+    #[test]
+    fn a_target_changes_no_book() {
+        let mut player = player_with_a_leg();
+        let before = player.book.clone();
+        for (line, answer) in [
+            ("target 2000 2007 48 0", 0),
+            ("target 2000 2008 48 0", 5),
+            ("target 2000 2008 54 0", 23),
+        ] {
+            assert_eq!(play_line(&mut player, line, &mut Vec::new()), answer);
+            assert_eq!(player.book, before);
+        }
+    }
+
+    #[test]
+    fn a_target_may_stand_before_the_first_open() {
+        assert_eq!(
+            answers("target 2001 2001 6 0\nenter 0 1 0 3 1000 2\n"),
+            "0 6 366 468 471 486 724 725\n0 0 0\n"
+        );
     }
 
     #[test]
     fn rules_may_stand_before_the_first_open() {
         assert_eq!(
             answers("rules\nenter 0 1 0 3 1000 2\nrules\n"),
-            "0 2\n0 0 0\n0 2\n"
+            "0 3\n0 0 0\n0 3\n"
         );
     }
 

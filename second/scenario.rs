@@ -10,7 +10,8 @@ impl<W: Write> Generator<W> {
     pub fn any_scenario(&mut self) -> io::Result<()> {
         self.readings = self.random.pick(&[5, 20, 40, 60]);
         self.noise = self.random.pick(&[0, 2, 5, 10, 25]);
-        match self.random.below(126) {
+        self.targets = self.random.pick(&[0, 0, 1, 3]);
+        match self.random.below(142) {
             0..=18 => self.mixed_life(),
             19..=34 => self.stages(),
             35..=46 => self.auctions(),
@@ -22,13 +23,17 @@ impl<W: Write> Generator<W> {
             80..=83 => self.refused_open(),
             84..=88 => self.end_of_calendar(),
             89..=91 => self.crowd(),
-            92..=94 => self.heavy_crowd(),
-            95 | 96 => self.many_legs(),
-            97 | 98 => self.long_life(),
-            99 | 100 => self.scrawl(),
-            101..=106 => self.jams(),
-            107..=114 => self.everybody_paid(),
-            _ => self.twins(),
+            92..=95 => self.heavy_crowd(),
+            96 | 97 => self.many_legs(),
+            98 | 99 => self.long_life(),
+            100 | 101 => self.scrawl(),
+            102..=107 => self.jams(),
+            108..=115 => self.everybody_paid(),
+            116..=126 => self.twins(),
+            127..=131 => self.targets(),
+            132..=134 => self.targets_amid_life(),
+            135 | 136 => self.each_call_after_a_target(),
+            _ => self.opened_by_targets(),
         }
     }
 
@@ -39,7 +44,7 @@ impl<W: Write> Generator<W> {
     }
 
     /// Calls of all kinds, some kinds more than others.
-    fn mixed_life(&mut self) -> io::Result<()> {
+    pub fn mixed_life(&mut self) -> io::Result<()> {
         if !self.random.percent(5) {
             self.open_any()?;
         }
@@ -66,6 +71,10 @@ impl<W: Write> Generator<W> {
     /// Some obligations are taken day by day through notice, grace, buy-in and the last day.
     fn stages(&mut self) -> io::Result<()> {
         self.open_any()?;
+        self.life_of_stages()
+    }
+
+    pub fn life_of_stages(&mut self) -> io::Result<()> {
         for _ in 0..self.random.between(1, 12) {
             let day = self.settlement_day();
             self.enter_pair(day)?;
@@ -155,7 +164,7 @@ impl<W: Write> Generator<W> {
     }
 
     /// A few obligations, and many offers on their buy-in days.
-    fn auctions(&mut self) -> io::Result<()> {
+    pub fn auctions(&mut self) -> io::Result<()> {
         self.open_any()?;
         let delay = self.random.below(3);
         for _ in 0..self.random.between(1, 4) {
@@ -256,7 +265,7 @@ impl<W: Write> Generator<W> {
     }
 
     /// Few debtors, several creditors whose claims like to be equal.
-    fn months(&mut self) -> io::Result<()> {
+    pub fn months(&mut self) -> io::Result<()> {
         self.open_any()?;
         if self.random.percent(30) {
             self.plausible("month")?;
@@ -571,7 +580,7 @@ impl<W: Write> Generator<W> {
     }
 
     /// The printer jams in one book after another.
-    fn jams(&mut self) -> io::Result<()> {
+    pub fn jams(&mut self) -> io::Result<()> {
         (self.readings, self.noise) = (self.random.pick(&[2, 20]), self.random.pick(&[0, 2]));
         for _ in 0..self.random.between(2, 4) {
             self.open_for_jams()?;
