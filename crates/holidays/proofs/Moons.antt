@@ -1,7 +1,7 @@
 -- The epact, the paschal full moon and Easter: how early and how late they are.
 use Prim.Native.Nat.{ℕ, _+_, _-_, _*_, _%_, _≤_, _<_}
 use native.Mathlib.Omega.{arith}
-use mathlib.Core.Path.{_≡_, refl, ap, _∙_}
+use mathlib.Core.Path.{_≡_, refl, ap}
 use mathlib.Core.Bool.{Bool, true, false, _&&_, _||_}
 use mathlib.Core.Logic.{⊎-elim}
 use lib.Dec.{eqb, ltb}
@@ -14,15 +14,16 @@ use Rattle.holidays.proofs.Years.{dates}
 use Rattle.holidays.proofs.Sundays.{FirstSunday, is-first-sunday}
 
 -- ---- the epact
+-- a remainder by 30 is at most 29
 plain-most : (y : ℕ) → plainEpact y ≤ 29
 unfolding plainEpact
 plain-most y = omega arith
 
--- The sun's correction may be taken off without its 30 times, as long as there is enough.
+-- 30 times a number need not be added before the number is taken off, if what it is taken off is not smaller
 pub off : (a s : ℕ) → s ≤ a → (a - s) % 30 ≡ (a + 30 * s - s) % 30
 off a s l = omega arith
 
--- the epact by its exceptions
+-- the epact in each exception, and in the two cases where there is none
 module _ (y : ℕ) where
   pub first-exception : plainEpact y ≡ 24 → epact y ≡ 25
   unfolding epact

@@ -11,7 +11,7 @@ use borrow.Author.Tests.{leb-true, leb-false, ltb-false, le-leb, lt-leb, lt-ltb,
 use Rattle.basics.specs.Refusals.{answer, outside}
 use Rattle.basics.proofs.Cases.{or-false}
 use Rattle.basics.proofs.Refusals.{passed, refused-with, done-by, Refuses, outcome-refuses}
-use Rattle.calendar.specs.Closed.{mostClosed, risesFrom, closedRefused}
+use Rattle.calendar.specs.Closed.{mostClosed, closedRefused}
 use Rattle.holidays.specs.Years.{firstYear}
 use Rattle.holidays.specs.Target.{closedFrom, yearsIn, targetDays, tooFew, lastYear, mostYears, badYears, targetRefusals}
 use Rattle.holidays.specs.Target.{targetNumber, targetDone, targetRefused, target, atFront, targetWords}

@@ -16,7 +16,7 @@ use Rattle.basics.proofs.Everywhere.{every-map, every-append}
 use Rattle.basics.proofs.Stores.{sets-append}
 use Rattle.calendar.specs.Closed.{lastDay, risesFrom}
 use Rattle.holidays.specs.Years.{firstYear, newYear, dateOf}
-use Rattle.holidays.specs.Easter.{fullMoon, easter}
+use Rattle.holidays.specs.Easter.{easter}
 use Rattle.holidays.specs.Target.{goodFriday, easterMonday, closedIn, closedFrom, lastYear}
 use Rattle.holidays.proofs.Years.{years-rise, dates, begins-early}
 use Rattle.holidays.proofs.Moons.{easter-sunday, after-march}

@@ -4,7 +4,6 @@ use native.Mathlib.Nat.{add-zero, zero-mul, suc-mul, div-add-mod', mod-lt, div-e
 use native.Mathlib.Omega.{arith}
 use mathlib.Core.Path.{_≡_, refl, ap, _∙_}
 use mathlib.Core.Bool.{Bool, true, false, not, _&&_, _||_}
-use lib.Dec.{eqb}
 use borrow.Author.Tests.{eqb-true, eqb-false, eq-eqb}
 use Rattle.basics.specs.Choice.{pick}
 use Rattle.basics.specs.Lists.{sum, total}
@@ -23,12 +22,13 @@ year-days : (y : ℕ) → sum (monthsOf y) ≡ 337 + february y
 unfolding monthsOf total
 year-days y = omega arith
 
--- A quotient grows by one where the divisor divides the number that is reached.
+-- From m to m + 1 a quotient grows by one if the divisor divides m + 1, and else it stays.
 module _ (d m : ℕ) where
-  -- the quotient of m lies between these limits
+  -- the quotient of m is k if m lies between these limits
   quotient : (k : ℕ) → k * suc d ≤ m → m < k * suc d + suc d → m / suc d ≡ k
   quotient k l u = div-eq-of-lt-le (suc d) l (omega (arith, suc-mul k (suc d)))
 
+  -- if m + 1 is k times the divisor, the quotient of m is one less than k
   reached : (k : ℕ) → k * suc d ≡ suc m → k ≡ m / suc d + 1
   reached zero e = absurd (omega (arith, zero-mul (suc d)))
   reached (suc k) e = let s = suc-mul k (suc d) in omega (arith, quotient k (omega arith) (omega arith))
@@ -149,11 +149,11 @@ years-rise y (suc k) h =
     let next : y + k + 1 ≡ y + suc k = omega arith in
     omega (arith, years-rise y k h, year-more (y + k) (omega arith), ap newYear next)
 
--- 2179 begins before day 65,535
+-- no year up to 2179 begins after day 65,535
 pub begins-early : (y : ℕ) → firstYear ≤ y → y ≤ lastYear + 1 → newYear y ≤ lastDay
 unfolding leapYears
 begins-early y h l = omega (arith, year-begins y h)
 
--- so does March of a year that is taken
+-- so 1 March of a year that is taken is not after that day
 pub march-early : (y : ℕ) → Taken y → dateOf y 3 1 ≤ lastDay
 march-early y t = omega (arith, begins-early (y + 1) (omega (arith, t .from)) (omega (arith, t .to)), dates y (t .from) .next)

@@ -9,20 +9,20 @@ use Rattle.holidays.specs.Years.{dateOf}
 abbrev pub golden : ℕ → ℕ
 golden y = y % 19 + 1
 
--- H6, Closed days: the number of the century that has the year 2000 as its first is 21
+-- H6, Closed days: the number of the century, which is 21 from 2000 on
 abbrev pub century : ℕ → ℕ
 century y = y / 100 + 1
 
--- H6, Closed days: the sun's correction is one more with each century that leaves out its leap day, three of four
+-- H6, Closed days: the sun's correction grows by one with each century whose first year is no leap year, three of four
 unfoldable pub sunCorrection : ℕ → ℕ
 sunCorrection y = 3 * century y / 4 - 12
 
--- H6, Closed days: the moon's correction is one more eight times in 25 centuries
+-- H6, Closed days: the moon's correction grows by one eight times in 25 centuries
 unfoldable pub moonCorrection : ℕ → ℕ
 moonCorrection y = (8 * century y + 5) / 25 - 5
 
--- H7, Closed days: the epact before its exceptions. The sun's correction is taken off. It is added 30 times first, so that
--- the difference is never below zero; 30 times a number changes no remainder by 30.
+-- H7, Closed days: the epact before its exceptions. The sun's correction is taken off. Before that it is added 30 times,
+-- which changes no remainder by 30, so that the difference is never below zero.
 unfoldable pub plainEpact : ℕ → ℕ
 plainEpact y = (11 * golden y + 20 + moonCorrection y + 30 * sunCorrection y - sunCorrection y) % 30
 
@@ -46,7 +46,7 @@ fullMoon y = pick (ltb (marchMoon y) (dateOf y 3 21)) (marchMoon y + 30) (marchM
 abbrev pub isSunday : ℕ → Bool
 isSunday d = eqb (d % 7) 1
 
--- the first Sunday from day d on, if there is one among the k days from d on, and else the day behind these
+-- H10, Closed days: the first Sunday among the k days from day d on, or the day behind them if none of them is one
 unfoldable pub sundayFrom : ℕ → ℕ → ℕ
 sundayFrom zero d = d
 sundayFrom (suc k) d = pick (isSunday d) d (sundayFrom k (d + 1))

@@ -72,7 +72,7 @@ targetRefused n = record { answer = n; count = 0 }
 unfoldable pub target : ℕ → ℕ → ℕ → DaysWritten
 target first last words = outcome (targetNumber first last words) (targetDone first last) targetRefused
 
--- days stand at the front of a list, and each word behind them is as it was
+-- H12, Closed days: days stand at the front of a list, and each word behind them is as it was
 abbrev pub atFront : List ℕ → List ℕ → List ℕ
 atFront days ws = days ++ drop (length days) ws
 

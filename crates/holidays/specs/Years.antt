@@ -7,7 +7,7 @@ use lib.ListN.{take}
 use Rattle.basics.specs.Choice.{pick}
 use Rattle.basics.specs.Lists.{sum}
 
--- a number divides a year
+-- H2, Closed days: a number divides a year
 abbrev pub divides : ℕ → ℕ → Bool
 divides n y = eqb (y % n) 0
 

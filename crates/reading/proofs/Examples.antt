@@ -46,6 +46,13 @@ unfolding isDigit onlyDigits valueFrom numberOf upTo furtherWords sameWord namin
     listable shapeRight withNumber numbersOf isComment callWith meaningOf
 a-look = refl
 
+-- `target 1 2 6 0` is a call
+a-target : meaningOf (116 ∷ 97 ∷ 114 ∷ 103 ∷ 101 ∷ 116 ∷ 32 ∷ 49 ∷ 32 ∷ 50 ∷ 32 ∷ 54 ∷ 32 ∷ 48 ∷ [])
+    ≡ call Name.Target (Shape.Lent 2) (1 ∷ 2 ∷ 6 ∷ 0 ∷ [])
+unfolding isDigit onlyDigits valueFrom numberOf upTo furtherWords sameWord namings found namingOf counted listsOf
+    listable shapeRight withNumber numbersOf isComment callWith meaningOf
+a-target = refl
+
 -- `look` with two spaces before its number is no call
 two-spaces : meaningOf (108 ∷ 111 ∷ 111 ∷ 107 ∷ 32 ∷ 32 ∷ 51 ∷ []) ≡ no-call
 unfolding isDigit onlyDigits valueFrom numberOf upTo furtherWords sameWord namings found namingOf counted listsOf

@@ -1,6 +1,6 @@
 -- `easter` meets its contract.
 use native.Mathlib.Omega.{arith}
-use mathlib.Core.Path.{sym, _∙_}
+use mathlib.Core.Path.{sym}
 use borrow.Author.Needs.{needs}
 use Rattle.holidays.specs.Easter.{easter}
 use Rattle.holidays.proofs.Years.{march-early}

@@ -1,5 +1,4 @@
 -- `new_year` meets its contract.
-use Prim.Native.Nat.{_-_, _*_}
 use native.Mathlib.Omega.{arith}
 use borrow.Author.Needs.{needs}
 use Rattle.holidays.proofs.Years.{leaps-added, year-begins}

@@ -1,5 +1,5 @@
 -- `tell_words` meets its contract.
-use Prim.Native.Nat.{_+_, _*_, _≤_, _<_}
+use Prim.Native.Nat.{_+_, _*_, _<_}
 use native.Mathlib.Omega.{arith}
 use mathlib.Core.Path.{_≡_, sym, _∙_}
 use lib.ListN.{length, take, length-set}
@@ -7,7 +7,6 @@ use lib.Seq.{length-take-le}
 use borrow.Author.Needs.{needs}
 use Rattle.writing.proofs.Writing.{wrote-one, wrote-then, wrote-length, spaced-most, text-most}
 use Rattle.answers.specs.Text.{wordsText}
-use Rattle.answers.specs.Told.{mostShown}
 use Rattle.answers.proofs.Answer.tell_words.Statement.{statement}
 use Rattle.answers.proofs.Answer.tell_words.Tie as tie
 
