@@ -9,7 +9,7 @@ use Rattle.holidays.specs.Years.{dateOf}
 abbrev pub golden : ℕ → ℕ
 golden y = y % 19 + 1
 
--- H6, Closed days: the number of the century, which is 21 from 2000 on
+-- H6, Closed days: the number of the century, which is 21 from 2000 to 2099
 abbrev pub century : ℕ → ℕ
 century y = y / 100 + 1
 
