@@ -67,23 +67,25 @@ module _ (y : ℕ) (h : firstYear ≤ y) where
       let e = dates y h .march (30 - epact y) in
       omega (arith, ap (dateOf y 3) d, epact-is y .most)
 
-  -- it is the paschal one if it is on 21 March or later
-  pub moon-late : 20 ≤ 43 - epact y → fullMoon y ≡ dateOf y 3 1 + (43 - epact y)
-  unfolding fullMoon
-  moon-late l = rw (le-ltb (marchMoon y) (dateOf y 3 21) (omega (arith, march-moon, dates y h .march 20))) march-moon
+  -- It is the paschal one if it is on 21 March or later. If it is earlier, the next one is.
+  module _ (march e : ℕ) (f : march ≡ dateOf y 3 1) (g : e ≡ epact y) where
+    pub moon-late : 20 ≤ 43 - e → march + (43 - e) ≡ fullMoon y
+    unfolding fullMoon
+    moon-late l =
+        rw (le-ltb (marchMoon y) (dateOf y 3 21) (omega (arith, march-moon, dates y h .march 20))) (omega (arith, march-moon))
 
-  -- if it is earlier, the next one is
-  pub moon-early : 43 - epact y < 20 → fullMoon y ≡ dateOf y 3 1 + (43 - epact y) + 30
-  unfolding fullMoon
-  moon-early l = rw (lt-ltb (marchMoon y) (dateOf y 3 21) (omega (arith, march-moon, dates y h .march 20))) (omega (arith, march-moon))
+    pub moon-early : 43 - e < 20 → march + (43 - e) + 30 ≡ fullMoon y
+    unfolding fullMoon
+    moon-early l =
+        rw (lt-ltb (marchMoon y) (dateOf y 3 21) (omega (arith, march-moon, dates y h .march 20))) (omega (arith, march-moon))
 
   -- the paschal full moon is not before 21 March and not after 18 April
   pub moon-span : (dateOf y 3 1 + 20 ≤ fullMoon y) × (fullMoon y ≤ dateOf y 3 1 + 48)
   moon-span =
       let e = epact-is y in
       ⊎-elim
-      (λ (l : 43 - epact y < 20). let m = moon-early l in (omega arith, omega (arith, e .most, e .not-24)))
-      (λ (l : 20 ≤ 43 - epact y). let m = moon-late l in (omega arith, omega (arith, e .most)))
+      (λ (l : 43 - epact y < 20). let m = moon-early (dateOf y 3 1) (epact y) refl refl l in (omega arith, omega (arith, e .most, e .not-24)))
+      (λ (l : 20 ≤ 43 - epact y). let m = moon-late (dateOf y 3 1) (epact y) refl refl l in (omega arith, omega (arith, e .most)))
       (below-or-not (43 - epact y) 20)
 
 -- ---- Easter

@@ -31,13 +31,8 @@ add-result-2 c = record { fits = omega (arith, moon-from (c .before)) }
 returns : tie.Need-returns
 returns c =
     let asked = c .before in
-    let start = asked .before .before in
-    omega (
-      arith,
-      asked .before .first-of-march .ensures,
-      asked .epact .ensures,
-      moon-early (start .args .year) (start .pre .from) (omega (arith, asked .epact .ensures, c .if1 .taken)),
-    )
+    let march = asked .before in
+    moon-early (march .before .args .year) (march .before .pre .from) _ _ (march .first-of-march .ensures) (asked .epact .ensures) (c .if1 .taken)
 
 add-result-3 : tie.Need-add-result-3
 add-result-3 c = record { fits = omega (arith, moon-from (c .before)) }
@@ -45,13 +40,8 @@ add-result-3 c = record { fits = omega (arith, moon-from (c .before)) }
 returns-2 : tie.Need-returns-2
 returns-2 c =
     let asked = c .before in
-    let start = asked .before .before in
-    omega (
-      arith,
-      asked .before .first-of-march .ensures,
-      asked .epact .ensures,
-      moon-late (start .args .year) (start .pre .from) (omega (arith, asked .epact .ensures, c .if1 .left)),
-    )
+    let march = asked .before in
+    moon-late (march .before .args .year) (march .before .pre .from) _ _ (march .first-of-march .ensures) (asked .epact .ensures) (c .if1 .left)
 
 pub full-moon-spec : {M : Type 1} → statement M
 full-moon-spec =
