@@ -78,7 +78,7 @@ impl Asked<'_> {
     /// which had the answer given.
     fn is_after(&self, answer: Refusal) -> bool {
         let target = self.before.target.filter(|_| self.before.in_life);
-        target.is_some_and(|target| target.answer == answer) && tells_book(self.played)
+        matches!(target, Some(target) if target.answer == answer) && tells_book(self.played)
     }
 
     /// The same for a call of the name, whatever the Target's answer was.
@@ -152,7 +152,7 @@ fn tells_book(played: &Played) -> bool {
     let has_lines = || !played.book.lines_to_show().is_empty();
     played.answer == 0
         && match *played.call {
-            Call::Enter { .. } => played.book.legs.last().is_some_and(is_matched),
+            Call::Enter { .. } => matches!(played.book.legs.last(), Some(leg) if is_matched(leg)),
             Call::Withdraw { .. } | Call::Cancel { .. } | Call::Deliver { .. } => true,
             Call::Offer { .. } | Call::Status { .. } => true,
             Call::Close { .. } | Call::Again { .. } => has_lines(),

@@ -70,7 +70,7 @@ fn closed_days_of(year: u64, new_year: u64) -> [u64; DAYS_A_YEAR as usize] {
 }
 
 fn is_leap(year: u64) -> bool {
-    year.is_multiple_of(400) || (year.is_multiple_of(4) && !year.is_multiple_of(100))
+    year % 400 == 0 || (year % 4 == 0 && year % 100 != 0)
 }
 
 fn days_of_year(year: u64) -> u64 {
@@ -87,7 +87,8 @@ fn days_before(year: u64, month: usize, day: u64) -> u64 {
 /// Easter Sunday of the year, as a day number. The number of 21 March is given.
 ///
 /// This is Gauss's rule for the Gregorian calendar. Easter is the first Sunday after the church's
-/// full moon of spring, which falls on 21 March or up to 29 days after it:
+/// full moon of spring, which falls on 21 March or up to 28 days after it, so on 18 April at the
+/// latest. Before the two exceptions below it may be 29 days after it:
 ///
 /// - From one year to the next the moon comes 11 days earlier, or 19 days later where it would come
 ///   before 21 March. After 19 years the moons begin anew (`year % 19`).
@@ -132,7 +133,7 @@ mod tests {
 
     fn next_date((year, month, day): (u64, usize, u64)) -> (u64, usize, u64) {
         let length = match month {
-            2 if year.is_multiple_of(4) && year != 2_100 => 29,
+            2 if year % 4 == 0 && year != 2_100 => 29,
             2 => 28,
             4 | 6 | 9 | 11 => 30,
             _ => 31,
@@ -344,7 +345,7 @@ mod tests {
     fn the_days_of_all_years_rise_up_to_the_last_day() {
         let days = closed_days(FIRST_YEAR, LAST_YEAR);
         assert_eq!(days.len(), 6 * 179);
-        assert!(days.is_sorted_by(|one, next| one < next));
+        assert!(days.windows(2).all(|pair| pair[0] < pair[1]));
         assert!(*days.last().unwrap() <= crate::book::LAST_DAY);
     }
 

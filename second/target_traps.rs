@@ -132,7 +132,7 @@ const TRAPS: [Trap; 53] = [
         t.keeps_words() && t.fill_is_next_day()
     }),
     ("target-fewer-days", |t| {
-        t.keeps_words() && t.before.written.is_some_and(|days| t.needed() < days)
+        t.keeps_words() && matches!(t.before.written, Some(days) if t.needed() < days)
     }),
     ("target-before-open", |t| t.answer == 0 && !t.before.opened),
     ("target-refused-before-open", |t| {

@@ -23,6 +23,6 @@ answer (r ∷ rs) = pick (r .holds) (r .number) (answer rs)
 abbrev pub outcome : {A : Type 0} → ℕ → A → (ℕ → A) → A
 outcome n done refused = pick (eqb n 0) done (refused n)
 
--- R2 and R3, Refusals: a number is below the lowest or above the highest that is taken
+-- R2, R3 and R23, Refusals: a number is below the lowest or above the highest that is taken
 abbrev pub outside : ℕ → ℕ → ℕ → Bool
 outside low high x = ltb x low || ltb high x

@@ -1,6 +1,6 @@
-// This crate holds what every chapter of the rules uses. The code has the smaller of two numbers, and whether a number is
-// outside two limits. specs/ has the choice by a test, sums over a list, and lists of refusals. proofs/ has their laws,
-// and laws on lists that the kit does not have.
+// This crate holds what every chapter of the rules uses. The code has the smaller of two numbers, and whether a number
+// is outside two limits. specs/ has the choice by a test, sums over a list, and lists of refusals. proofs/ has their
+// laws, and laws on lists that the kit does not have.
 ghost use mathlib.Core.Path.{_≡_};
 ghost use Prim.Native.Nat.{min};
 ghost use Rattle.basics.specs.Refusals.{outside};

@@ -181,7 +181,8 @@ fn closed_days() -> u64
 {
     let mut days = [9u64; 7];
     let written = holidays::target_days(2_000, 2_000, &mut days);
-    compared(13, written.count as u64, 6)
+    compared(13, written.answer, 0)
+        + compared(13, written.count as u64, 6)
         + compared(13, days[0], 0)
         + compared(13, days[1], 111)
         + compared(13, days[2], 114)

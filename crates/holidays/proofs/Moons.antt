@@ -20,8 +20,8 @@ unfolding plainEpact
 plain-most y = omega arith
 
 -- 30 times a number need not be added before the number is taken off, if what it is taken off is not smaller
-pub off : (a s : ℕ) → s ≤ a → (a - s) % 30 ≡ (a + 30 * s - s) % 30
-off a s l = omega arith
+pub taken-off : (a s : ℕ) → s ≤ a → (a - s) % 30 ≡ (a + 30 * s - s) % 30
+taken-off a s l = omega arith
 
 -- the epact in each exception, and in the two cases where there is none
 module _ (y : ℕ) where

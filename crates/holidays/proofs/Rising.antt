@@ -71,7 +71,7 @@ module _ (y : ℕ) (h : firstYear ≤ y) where
       january ∷ (sunday - 2) ∷ (sunday + 1) ∷ (march + 61) ∷ (march + 299) ∷ (march + 300) ∷ [] ≡ closedIn y
   unfolding closedIn goodFriday easterMonday
   by-march january march sunday e f g =
-      let d = dates y h in rw (e, f, g, d .january, d .may, d .christmas, d .saint-stephen)
+      let d = dates y h in rw (e, f, g, d .january, d .may, d .december-25, d .december-26)
 
   -- they climb from the first day of the year on, and days that climb from the next year on may follow
   year-climbs : {ds : List ℕ} → Climbs (newYear (y + 1)) ds → Climbs (newYear y) (closedIn y ++ ds)
@@ -80,8 +80,8 @@ module _ (y : ℕ) (h : firstYear ≤ y) where
       let d = dates y h in
       let span = after-march y h in
       let may : easter y + 1 + 1 ≤ dateOf y 5 1 = omega (arith, d .may) in
-      let christmas : dateOf y 5 1 + 1 ≤ dateOf y 12 25 = omega (arith, d .may, d .christmas) in
-      let second : dateOf y 12 25 + 1 ≤ dateOf y 12 26 = omega (arith, d .christmas, d .saint-stephen) in
+      let christmas : dateOf y 5 1 + 1 ≤ dateOf y 12 25 = omega (arith, d .may, d .december-25) in
+      let second : dateOf y 12 25 + 1 ≤ dateOf y 12 26 = omega (arith, d .december-25, d .december-26) in
       let january : newYear y ≤ dateOf y 1 1 = omega (arith, d .january) in
       let friday : dateOf y 1 1 + 1 ≤ easter y - 2 = omega (arith, d .january, d .february) in
       let monday : easter y - 2 + 1 ≤ easter y + 1 = omega arith in
@@ -90,7 +90,7 @@ module _ (y : ℕ) (h : firstYear ≤ y) where
       (up (easter y + 1) monday
       (up (dateOf y 5 1) may
       (up (dateOf y 12 25) christmas
-      (up (dateOf y 12 26) second (climbs-from (omega (arith, d .saint-stephen, d .next)) c))))))
+      (up (dateOf y 12 26) second (climbs-from (omega (arith, d .december-26, d .next)) c))))))
 
   -- they are over before the next year
   year-over : Every (λ d. d < newYear (y + 1)) (closedIn y)
@@ -102,8 +102,8 @@ module _ (y : ℕ) (h : firstYear ≤ y) where
       (also {x = easter y - 2} (omega (arith, d .next))
       (also {x = easter y + 1} (omega (arith, d .next))
       (also {x = dateOf y 5 1} (omega (arith, d .may, d .next))
-      (also {x = dateOf y 12 25} (omega (arith, d .christmas, d .next))
-      (also {x = dateOf y 12 26} (omega (arith, d .saint-stephen, d .next)) nobody)))))
+      (also {x = dateOf y 12 25} (omega (arith, d .december-25, d .next))
+      (also {x = dateOf y 12 26} (omega (arith, d .december-26, d .next)) nobody)))))
 
 -- ---- the closed days of several years
 -- there are six for each year

@@ -48,7 +48,7 @@ unfoldable pub leapYears : ℕ → ℕ
 leapYears y = y / 4 + y / 400 - y / 100
 
 -- the leap years up to a year, as code adds them to a number
-pub leaps-added : (x y : ℕ) → x + y / 4 + y / 400 - y / 100 ≡ x + leapYears y
+leaps-added : (x y : ℕ) → x + y / 4 + y / 400 - y / 100 ≡ x + leapYears y
 unfolding leapYears
 leaps-added x y = by (y / 4) (y / 100) (y / 400) (omega arith)
   where
@@ -93,11 +93,22 @@ by-years (suc n) =
     omega (arith, by-years n, year-days (firstYear + n), leap-days (1999 + n), ap february year, ap leapYears next)
 
 -- the first day of a year, by arithmetic
-pub year-begins : (y : ℕ) → firstYear ≤ y → newYear y + 484 ≡ 365 * (y - firstYear) + leapYears (y - 1)
+year-begins : (y : ℕ) → firstYear ≤ y → newYear y + 484 ≡ 365 * (y - firstYear) + leapYears (y - 1)
 unfolding newYear
 year-begins y h =
     let e : 1999 + (y - firstYear) ≡ y - 1 = omega arith in
     rw e at (by-years (y - firstYear))
+
+-- the same as code has it, before the leap years until 2000 are taken off
+abbrev coded : ℕ → ℕ
+coded y = 365 * (y - firstYear) + (y - 1) / 4 + (y - 1) / 400 - (y - 1) / 100
+
+module _ (y : ℕ) (h : firstYear ≤ y) where
+  pub coded-enough : 484 ≤ coded y
+  coded-enough = rw (leaps-added (365 * (y - firstYear)) (y - 1)) (omega (arith, year-begins y h))
+
+  pub coded-year : coded y - 484 ≡ newYear y
+  coded-year = rw (leaps-added (365 * (y - firstYear)) (y - 1)) (omega (arith, year-begins y h))
 
 -- ---- the dates of a year
 -- February has 28 or 29 days
@@ -122,8 +133,8 @@ pub record Dates (y : ℕ) : Type 0 where
   pub march : (d : ℕ) → dateOf y 3 (d + 1) ≡ dateOf y 3 1 + d
   pub april : (d : ℕ) → dateOf y 4 (d + 1) ≡ dateOf y 3 1 + 31 + d
   pub may : dateOf y 5 1 ≡ dateOf y 3 1 + 61
-  pub christmas : dateOf y 12 25 ≡ dateOf y 3 1 + 299
-  pub saint-stephen : dateOf y 12 26 ≡ dateOf y 3 1 + 300
+  pub december-25 : dateOf y 12 25 ≡ dateOf y 3 1 + 299
+  pub december-26 : dateOf y 12 26 ≡ dateOf y 3 1 + 300
   pub next : newYear (y + 1) ≡ dateOf y 3 1 + 306
 
 pub dates : (y : ℕ) → firstYear ≤ y → Dates y
@@ -136,8 +147,8 @@ dates y h =
       march = λ d. omega arith;
       april = λ d. omega arith;
       may = omega arith;
-      christmas = omega arith;
-      saint-stephen = omega arith;
+      december-25 = omega arith;
+      december-26 = omega arith;
       next = omega (arith, year-more y h, year-days y);
     }
 

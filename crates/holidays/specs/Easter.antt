@@ -21,8 +21,8 @@ sunCorrection y = 3 * century y / 4 - 12
 unfoldable pub moonCorrection : ℕ → ℕ
 moonCorrection y = (8 * century y + 5) / 25 - 5
 
--- H7, Closed days: the epact before its exceptions. The sun's correction is taken off. Before that it is added 30 times,
--- which changes no remainder by 30, so that the difference is never below zero.
+-- H7, Closed days: the epact before its exceptions. The sun's correction is taken off. Before that it is added 30
+-- times, which changes no remainder by 30, so that the difference is never below zero.
 unfoldable pub plainEpact : ℕ → ℕ
 plainEpact y = (11 * golden y + 20 + moonCorrection y + 30 * sunCorrection y - sunCorrection y) % 30
 
@@ -51,7 +51,7 @@ unfoldable pub sundayFrom : ℕ → ℕ → ℕ
 sundayFrom zero d = d
 sundayFrom (suc k) d = pick (isSunday d) d (sundayFrom k (d + 1))
 
--- H10, Closed days: Easter is the first Sunday after the paschal full moon. If none of the first six days after the full
--- moon is a Sunday, the seventh is.
+-- H10, Closed days: Easter is the first Sunday after the paschal full moon. If none of the first six days after the
+-- full moon is a Sunday, the seventh is.
 unfoldable pub easter : ℕ → ℕ
 easter y = sundayFrom 6 (fullMoon y + 1)

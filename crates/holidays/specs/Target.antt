@@ -64,7 +64,7 @@ targetNumber first last words = answer (targetRefusals first last words)
 abbrev pub targetDone : ℕ → ℕ → DaysWritten
 targetDone first last = record { answer = 0; count = length (targetDays first last) }
 
--- A1, Refusals: if Target is refused, it returns the number and zero days
+-- A5, Refusals: a refused Target returns its number and zero days
 abbrev pub targetRefused : ℕ → DaysWritten
 targetRefused n = record { answer = n; count = 0 }
 
@@ -76,11 +76,11 @@ target first last words = outcome (targetNumber first last words) (targetDone fi
 abbrev pub atFront : List ℕ → List ℕ → List ℕ
 atFront days ws = days ++ drop (length days) ws
 
--- H12 and A5, Closed days: every word of the lent list as it ends
+-- H12, Closed days, and A5, Refusals: every word of the lent list as it ends
 unfoldable pub targetWords : ℕ → ℕ → List ℕ → List ℕ
 targetWords first last ws = outcome (targetNumber first last (length ws)) (atFront (targetDays first last) ws) (λ n. ws)
 
--- a year that Target takes; the leaves of the code require it
+-- a year that Target takes; the functions that work on one year require it
 pub record Taken (y : ℕ) : Type 0 where
   pub from : firstYear ≤ y
   pub to : y ≤ lastYear

@@ -1,5 +1,5 @@
-// The closed days of TARGET. A book is opened with a list of closed days, and the call Target writes this list for a few
-// years. It takes no book.
+// The closed days of TARGET. A book is opened with a list of closed days, and the call Target writes this list for a
+// few years. It takes no book.
 ghost use mathlib.Core.Path.{_≡_};
 ghost use Prim.Native.Nat.{_+_, _*_, _≤_};
 ghost use lib.ListN.{length};
@@ -19,8 +19,8 @@ const LAST_YEAR: u64 = 2_178;
 // The most years that Target takes; `mostYears` in specs/.
 const MOST_YEARS: u64 = 8;
 
-// A year has this many closed days.
-const DAYS_OF_YEAR: usize = 6;
+// How many closed days a year has.
+const CLOSED_IN_YEAR: usize = 6;
 
 // The answer of Target.
 pub struct DaysWritten {
@@ -29,8 +29,8 @@ pub struct DaysWritten {
     pub count: usize,
 }
 
-// The first day of a year. There is one leap year in four, and of the hundredth years only one in four. Before 2000 there
-// were 484 leap years by this rule.
+// The first day of a year. There is one leap year in four, and of the hundredth years only one in four. Before 2000
+// there were 484 leap years by this rule.
 fn new_year(year: u64) -> u64
     requires { ⌜ (firstYear ≤ year) × (year ≤ lastYear + 1) ⌝ }
     ensures { λ r. ⌜ r ≡ newYear year ⌝ }
@@ -80,7 +80,8 @@ fn epact(year: u64) -> u64
     plain
 }
 
-// The paschal full moon of a year.
+// The paschal full moon of a year. The full moon of March comes 43 days after 1 March, less the epact, and 21 March is
+// 20 days after it.
 fn full_moon(year: u64) -> u64
     requires { ⌜ Taken year ⌝ }
     ensures { λ r. ⌜ r ≡ fullMoon year ⌝ }
@@ -102,7 +103,8 @@ fn easter(year: u64) -> u64
     moon + 7 - (moon + 6) % 7
 }
 
-// Writes the closed days of a year from a place on.
+// Writes the closed days of a year from a place on. 1 May is 61 days after 1 March, and 25 December is 299 days after
+// it.
 fn put_year(year: u64, days: &mut [u64], at: usize)
     requires { ⌜ (Taken year) × (at + 6 ≤ length (now days)) ⌝ }
     ensures { λ _. ⌜ now (days .exit) ≡ sets (now (days .entry)) at (closedIn year) ⌝ }
@@ -124,17 +126,17 @@ fn write_years(first: u64, years: usize, days: &mut [u64])
 {
     let mut i = 0;
     while i < years {
-        put_year(first + i as u64, days, DAYS_OF_YEAR * i);
+        put_year(first + i as u64, days, CLOSED_IN_YEAR * i);
         i += 1;
     }
 }
 
-// Whether a list of this many words is too short for the years. Neither the number of years nor six times it need fit 64
-// bits, so the words are divided.
+// Whether a list of this many words is too short for the years. Neither the number of years nor six times it need fit
+// 64 bits, so the words are divided.
 fn are_too_few(first: u64, last: u64, words: usize) -> bool
     ensures { λ r. ⌜ r ≡ tooFew first last words ⌝ }
 {
-    first <= last && (words / DAYS_OF_YEAR) as u64 <= last - first
+    first <= last && (words / CLOSED_IN_YEAR) as u64 <= last - first
 }
 
 // Whether the years are refused. If the first is not after the last, the years are one more than their difference.
@@ -175,6 +177,6 @@ pub fn target_days(first: u64, last: u64, days: &mut [u64]) -> DaysWritten
     write_years(first, years, days);
     DaysWritten {
         answer: 0,
-        count: DAYS_OF_YEAR * years,
+        count: CLOSED_IN_YEAR * years,
     }
 }

@@ -1,4 +1,4 @@
--- The calls that lines ask for, each played on the book: the book that it hands back, and its answer. The arguments are in
+-- The calls that lines ask for: the book that each hands back, if it takes one, and its answer. The arguments are in
 -- the order of docs/JOURNAL.md, Lines in, and the results are in the order of its chapter Lines out.
 use Prim.Native.Nat.{ℕ}
 use mathlib.Core.Path.{_≡_}

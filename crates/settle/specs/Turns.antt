@@ -44,7 +44,8 @@ pub data Gives (b : Book) (a : Asked) (ns ws : List ℕ) : Line → Played → L
   balancing : (shape : Shape) (n : ℕ) → Gives b a ns ws (Call Name.Account shape n) (played b (balances b a)) ws
   looking : (shape : Shape) (n : ℕ) (answer : Answer) → LooksAs b a answer →
       Gives b a ns ws (Call Name.Look shape n) (played b answer) ws
-  targeting : (shape : Shape) (n : ℕ) → Gives b a ns ws (Call Name.Target shape n) (played b (targets a)) (wordsTargeted a ws)
+  targeting : (shape : Shape) (n : ℕ) →
+      Gives b a ns ws (Call Name.Target shape n) (played b (targets a)) (wordsTargeted a ws)
   ruling : (shape : Shape) (n : ℕ) → Gives b a ns ws (Call Name.Rules shape n) (played b editionTold) ws
   passing : Gives b a ns ws Comment (played b nothing) ws
   objecting : Gives b a ns ws NoCall (played b noCall) ws

@@ -1,4 +1,4 @@
-// What a line asks, and the calls on the book that play it.
+// What a line asks, and the calls that play it.
 use answers::Answer;
 use book::Balance;
 use book::Book;
@@ -26,7 +26,8 @@ ghost use Rattle.settle.specs.Calls.{targets, wordsTargeted, editionTold
 
 // What a line asks. The first six numbers of the buffer are copied for every call; a call with fewer arguments does not
 // use the rest, which may be left from earlier lines. `from` and `to` are the places of the list of an open or a month.
-// `lent` says how many words a close, an again, a month or a target is lent, and `fill` with what value they are filled.
+// `lent` says how many words a close, an again, a month or a target is lent, and `fill` with what value they are
+// filled.
 pub struct Asked {
     pub line: Line,
     pub first: u64,

@@ -17,19 +17,20 @@ shownAt i ns = getD ns i 0
 
 returns : tie.Need-returns
 returns c =
-    let called = c .before .before .before .before .before .before .before .before .before .target-days in
-    let count = ap (λ (r : DaysWritten). r .count) (called .ensures .0) ∙ ap (shownAt 1) example-13 in
+    let called = c .before .before .before .before .before .before .before .before .before .before .target-days in
+    let written = called .ensures .0 in
     let days = called .ensures .1 in
     omega (
       arith,
-      none-differs count (c .before .before .before .before .before .before .before .compared .ensures .0),
-      none-differs (ap (shownAt 0) days ∙ ap (shownAt 2) example-13) (c .before .before .before .before .before .before .compared2 .ensures .0),
-      none-differs (ap (shownAt 1) days ∙ ap (shownAt 3) example-13) (c .before .before .before .before .before .compared3 .ensures .0),
-      none-differs (ap (shownAt 2) days ∙ ap (shownAt 4) example-13) (c .before .before .before .before .compared4 .ensures .0),
-      none-differs (ap (shownAt 3) days ∙ ap (shownAt 5) example-13) (c .before .before .before .compared5 .ensures .0),
-      none-differs (ap (shownAt 4) days ∙ ap (shownAt 6) example-13) (c .before .before .compared6 .ensures .0),
-      none-differs (ap (shownAt 5) days ∙ ap (shownAt 7) example-13) (c .before .compared7 .ensures .0),
-      none-differs (ap (shownAt 6) days ∙ ap (shownAt 8) example-13) (c .compared8 .ensures .0),
+      none-differs (ap (λ (r : DaysWritten). r .answer) written ∙ ap (shownAt 0) example-13) (c .before .before .before .before .before .before .before .before .compared .ensures .0),
+      none-differs (ap (λ (r : DaysWritten). r .count) written ∙ ap (shownAt 1) example-13) (c .before .before .before .before .before .before .before .compared2 .ensures .0),
+      none-differs (ap (shownAt 0) days ∙ ap (shownAt 2) example-13) (c .before .before .before .before .before .before .compared3 .ensures .0),
+      none-differs (ap (shownAt 1) days ∙ ap (shownAt 3) example-13) (c .before .before .before .before .before .compared4 .ensures .0),
+      none-differs (ap (shownAt 2) days ∙ ap (shownAt 4) example-13) (c .before .before .before .before .compared5 .ensures .0),
+      none-differs (ap (shownAt 3) days ∙ ap (shownAt 5) example-13) (c .before .before .before .compared6 .ensures .0),
+      none-differs (ap (shownAt 4) days ∙ ap (shownAt 6) example-13) (c .before .before .compared7 .ensures .0),
+      none-differs (ap (shownAt 5) days ∙ ap (shownAt 7) example-13) (c .before .compared8 .ensures .0),
+      none-differs (ap (shownAt 6) days ∙ ap (shownAt 8) example-13) (c .compared9 .ensures .0),
     )
 
 pub closed-days-spec : {M : Type 1} → statement M
@@ -38,6 +39,7 @@ closed-days-spec =
     (tie.spec
     (λ c. search needs) (λ c κs. search needs)
     (λ c κs. search needs)
+    (λ c κs. search needs) (λ c. search needs)
     (λ c. search needs) (λ c κs. search needs) (λ c. search needs)
     (λ c. search needs) (λ c κs. search needs) (λ c. search needs)
     (λ c. search needs) (λ c κs. search needs) (λ c. search needs)

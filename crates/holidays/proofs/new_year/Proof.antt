@@ -1,16 +1,15 @@
 -- `new_year` meets its contract.
-use native.Mathlib.Omega.{arith}
 use borrow.Author.Needs.{needs}
-use Rattle.holidays.proofs.Years.{leaps-added, year-begins}
+use Rattle.holidays.proofs.Years.{coded-enough, coded-year}
 use Rattle.holidays.proofs.new_year.Statement.{statement}
 use Rattle.holidays.proofs.new_year.Tie as tie
 
 -- the last of the differences is not below zero
 sub-result-3 : tie.Need-sub-result-3
-sub-result-3 c = rw leaps-added (omega (arith, year-begins (c .args .year) (c .pre .0)))
+sub-result-3 c = coded-enough _ (c .pre .0)
 
 returns : tie.Need-returns
-returns c = rw leaps-added (omega (arith, year-begins (c .args .year) (c .pre .0)))
+returns c = coded-year _ (c .pre .0)
 
 pub new-year-spec : {M : Type 1} → statement M
 new-year-spec =

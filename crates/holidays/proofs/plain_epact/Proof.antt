@@ -2,13 +2,13 @@
 use native.Mathlib.Omega.{arith}
 use borrow.Author.Needs.{needs}
 use Rattle.holidays.specs.Easter.{plainEpact, sunCorrection, moonCorrection}
-use Rattle.holidays.proofs.Moons.{off}
+use Rattle.holidays.proofs.Moons.{taken-off}
 use Rattle.holidays.proofs.plain_epact.Statement.{statement}
 use Rattle.holidays.proofs.plain_epact.Tie as tie
 
 returns : tie.Need-returns
 unfolding plainEpact sunCorrection moonCorrection
-returns c = rw (c .golden .ensures) (off _ _ (omega arith))
+returns c = rw (c .golden .ensures) (taken-off _ _ (omega arith))
 
 pub plain-epact-spec : {M : Type 1} → statement M
 plain-epact-spec =
