@@ -2,7 +2,7 @@
 //! the days that it wrote.
 
 use crate::book::{is_weekday, Leg, LegState, Line, Refusal, MAX_SETTLEMENT_DAY};
-use crate::hits::Played;
+use crate::hits::{rows_of, Played};
 use crate::holidays::{closed_days, years_between};
 use crate::journal::{Call, NAMES};
 use crate::twins::is_owed;
@@ -215,6 +215,6 @@ impl AfterTarget {
 
     /// The names of the situations with their counts.
     pub fn rows(&self) -> impl Iterator<Item = (&'static str, u64)> + '_ {
-        TRAPS.iter().map(|&(name, _)| name).zip(self.counts)
+        rows_of(&TRAPS, &self.counts)
     }
 }

@@ -267,76 +267,70 @@ mod tests {
         lines.any(holds)
     }
 
+    /// Asserts that some line of these journals has each of the starts.
+    fn assert_starts(starts: &[&str]) {
+        for start in starts {
+            let is_met = any_line(|written| written.starts_with(start.as_bytes()));
+            assert!(is_met, "{start:?}");
+        }
+    }
+
+    /// Asserts that each of the lines stands in these journals.
+    fn assert_written(lines: &[&str]) {
+        for line in lines {
+            let is_met = any_line(|written| written == line.as_bytes());
+            assert!(is_met, "{line:?}");
+        }
+    }
+
     #[test]
     fn rules_are_asked_rightly_and_wrongly() {
-        for line in [&b"rules"[..], b"rules 0", b"rules ", b"Rules"] {
-            assert!(any_line(|written| written == line), "{line:?}");
-        }
+        assert_written(&["rules", "rules 0", "rules ", "Rules"]);
     }
 
     #[test]
     fn empty_months_have_places_of_all_numbers() {
-        for start in [
-            &b"month 0 0 "[..],
-            b"month 0 31 ",
-            b"month 0 32 ",
-            b"month 0 33 ",
-        ] {
-            assert!(any_line(|written| written.starts_with(start)), "{start:?}");
-        }
+        assert_starts(&["month 0 0 ", "month 0 31 ", "month 0 32 ", "month 0 33 "]);
     }
 
     #[test]
     fn empty_months_are_written_wrongly_too() {
-        for line in [
-            &b"month"[..],
-            b"month 0",
-            b"month 0 32",
-            b"month 0 32 ",
-            b"month 0 32 7 7",
-        ] {
-            assert!(any_line(|written| written == line), "{line:?}");
-        }
+        assert_written(&[
+            "month",
+            "month 0",
+            "month 0 32",
+            "month 0 32 ",
+            "month 0 32 7 7",
+        ]);
     }
 
     #[test]
     fn targets_have_lists_of_all_lengths() {
-        for start in [
-            &b"target 2000 2000 5 "[..],
-            b"target 2000 2000 6 ",
-            b"target 2000 2007 48 ",
-            b"target 2000 2007 4096 ",
-            b"target 2000 2008 53 ",
-            b"target 2000 2008 54 ",
-            b"target 2001 2000 0 ",
-            b"target 18446744073709551615 0 0 ",
-            b"target 0 18446744073709551615 4096 ",
-        ] {
-            assert!(any_line(|written| written.starts_with(start)), "{start:?}");
-        }
+        assert_starts(&[
+            "target 2000 2000 5 ",
+            "target 2000 2000 6 ",
+            "target 2000 2007 48 ",
+            "target 2000 2007 4096 ",
+            "target 2000 2008 53 ",
+            "target 2000 2008 54 ",
+            "target 2001 2000 0 ",
+            "target 18446744073709551615 0 0 ",
+            "target 0 18446744073709551615 4096 ",
+        ]);
     }
 
     #[test]
     fn targets_are_written_wrongly_too() {
-        for line in [
-            &b"target"[..],
-            b"target 2000 2000 6",
-            b"target 2000 2000 6 0 0",
-            b"target 2000 2000 4097 0",
-        ] {
-            assert!(any_line(|written| written == line), "{line:?}");
-        }
+        assert_written(&[
+            "target",
+            "target 2000 2000 6",
+            "target 2000 2000 6 0 0",
+            "target 2000 2000 4097 0",
+        ]);
     }
 
     #[test]
     fn again_has_lists_of_all_lengths() {
-        for start in [
-            &b"again 1151 "[..],
-            b"again 1152 ",
-            b"again 4096 ",
-            b"again 4097 ",
-        ] {
-            assert!(any_line(|written| written.starts_with(start)), "{start:?}");
-        }
+        assert_starts(&["again 1151 ", "again 1152 ", "again 4096 ", "again 4097 "]);
     }
 }

@@ -181,6 +181,15 @@ impl Hits {
     }
 }
 
+/// The names of a table of situations with their counts.
+pub fn rows_of<'a, F>(
+    traps: &'static [(&'static str, F)],
+    counts: &'a [u64],
+) -> impl Iterator<Item = (&'static str, u64)> + 'a {
+    let names = traps.iter().map(|&(name, _)| name);
+    names.zip(counts.iter().copied())
+}
+
 /// The call's place among the names.
 fn index(call: &Call) -> usize {
     match call {

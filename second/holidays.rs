@@ -315,7 +315,7 @@ mod tests {
         }
     }
 
-    /// Easter by the anonymous rule that Butcher, Meeus and Jones handed down, letter by letter.
+    /// Easter by the anonymous rule that Butcher, Meeus and Jones published, letter by letter.
     fn anonymous_easter(year: u64) -> (u64, usize, u64) {
         let (a, b, c) = (year % 19, year / 100, year % 100);
         let (d, e, f) = (b / 4, b % 4, (b + 8) / 25);

@@ -2,6 +2,7 @@
 //! each.
 
 use crate::book::{owed, Accounts, Refusal, MEMBERS};
+use crate::hits::rows_of;
 use crate::journal::Call;
 use crate::twins::{is_owed, Twins};
 
@@ -212,7 +213,6 @@ impl MonthTraps {
 
     /// The names of the situations with their counts.
     pub fn rows(&self) -> impl Iterator<Item = (&'static str, u64)> + '_ {
-        let names = TRAPS.iter().map(|&(name, _)| name);
-        names.zip(self.counts).chain(self.twins.rows())
+        rows_of(&TRAPS, &self.counts).chain(self.twins.rows())
     }
 }

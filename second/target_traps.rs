@@ -4,7 +4,7 @@ use std::collections::BTreeSet;
 
 use crate::after_target::AfterTarget;
 use crate::book::Refusal;
-use crate::hits::Played;
+use crate::hits::{rows_of, Played};
 use crate::holidays::{closed_days, words_needed, years_between, FIRST_YEAR, LAST_YEAR, MAX_YEARS};
 use crate::journal::Call;
 
@@ -300,7 +300,6 @@ impl TargetTraps {
 
     /// The names of the situations with their counts.
     pub fn rows(&self) -> impl Iterator<Item = (&'static str, u64)> + '_ {
-        let names = TRAPS.iter().map(|&(name, _)| name);
-        names.zip(self.counts).chain(self.after.rows())
+        rows_of(&TRAPS, &self.counts).chain(self.after.rows())
     }
 }

@@ -1,6 +1,7 @@
 //! The situations in which an Again is easily answered wrongly, and how often a journal met each.
 
 use crate::book::{Refusal, CLOSE_WORDS, LINE_WORDS};
+use crate::hits::rows_of;
 use crate::journal::{Call, NAMES};
 
 /// The name of a situation, and whether an Again is in it.
@@ -181,6 +182,6 @@ impl Traps {
 
     /// The names of the situations with their counts.
     pub fn rows(&self) -> impl Iterator<Item = (&'static str, u64)> + '_ {
-        TRAPS.iter().map(|&(name, _)| name).zip(self.counts)
+        rows_of(&TRAPS, &self.counts)
     }
 }

@@ -4,6 +4,7 @@
 use std::hash::{DefaultHasher, Hash, Hasher};
 
 use crate::book::{owed, Accounts, Refusal};
+use crate::hits::rows_of;
 use crate::journal::Call;
 
 /// So many calls of a book are kept for the comparison with the next book. It bounds the memory.
@@ -194,6 +195,6 @@ impl Twins {
 
     /// The names of the situations with their counts.
     pub fn rows(&self) -> impl Iterator<Item = (&'static str, u64)> + '_ {
-        TRAPS.iter().map(|&(name, _)| name).zip(self.counts)
+        rows_of(&TRAPS, &self.counts)
     }
 }

@@ -14,6 +14,11 @@ use Rattle.basics.specs.Choice.{pick}
 pub never : false ≡ true → ⊥
 never e = let z : _≡_ {A = ℕ} 0 1 = cc in omega arith
 
+-- two tests are the same if the second comes out as the first does
+pub same-test : (s t : Bool) → (s ≡ true → t ≡ true) → (s ≡ false → t ≡ false) → s ≡ t
+same-test true t f g = sym (f refl)
+same-test false t f g = sym (g refl)
+
 -- A fact about a choice follows if it is shown for each outcome of the test.
 pub pick-case : {A : Type 0} (P : A → Type 0) (t : Bool) (a b : A) → (t ≡ true → P a) → (t ≡ false → P b) → P (pick t a b)
 pick-case P true a b f g = f refl

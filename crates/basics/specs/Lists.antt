@@ -43,6 +43,10 @@ pub data Sorted {A : Type 0} (R : A → A → Type 0) : List A → Type 0 where
 abbrev pub padded : {A : Type 0} → ℕ → A → List A → List A
 padded n z xs = xs ++ replicate (n - length xs) z
 
+-- a list stands at the front of another one; each element behind it is as it was
+abbrev pub atFront : {A : Type 0} → List A → List A → List A
+atFront xs ys = xs ++ drop (length xs) ys
+
 -- the elements from one place up to another
 abbrev pub between : ℕ → ℕ → List ℕ → List ℕ
 between from to xs = take (to - from) (drop from xs)

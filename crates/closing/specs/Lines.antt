@@ -2,9 +2,9 @@
 use Prim.Native.Nat.{ℕ, _+_, _*_, _≤_, _<_}
 use mathlib.Core.Path.{_≡_}
 use mathlib.Core.List.{List, [], _∷_, _++_}
-use lib.ListN.{length, getD, drop}
+use lib.ListN.{length, getD}
 use lib.Seq.{sets}
-use Rattle.basics.specs.Lists.{table}
+use Rattle.basics.specs.Lists.{table, atFront}
 use Rattle.amounts.specs.Amounts.{mostQuantity, mostOfferPrice}
 use Rattle.ledger.specs.declared.Obligation.{Obligation}
 use Rattle.ledger.specs.Ledger.{mostObligations, mostSupplier}
@@ -42,7 +42,7 @@ flat (l ∷ ls) = wordsOf l ++ flat ls
 
 -- C15, Close: the lines stand at the front of the lent list; each word behind them stays as it was
 unfoldable pub written : List Line → List ℕ → List ℕ
-written ls ws = flat ls ++ drop (length (flat ls)) ws
+written ls ws = atFront (flat ls) ws
 
 -- C11, Close: the line with number i of a list, from 0 on; each line has six words
 abbrev pub lineAt : List ℕ → ℕ → Line

@@ -2,33 +2,29 @@
 use Prim.Native.Nat.{ℕ, _+_, _-_, _*_, _/_, _≤_, _<_}
 use native.Mathlib.Omega.{arith}
 use mathlib.Core.Path.{_≡_, refl, sym, ap, _∙_}
-use mathlib.Core.Bool.{Bool, true, false, not}
+use mathlib.Core.Bool.{false, not}
 use mathlib.Core.List.{List, []}
 use lib.Dec.{leb, ltb}
 use lib.ListN.{length, take, drop}
 use lib.Seq.{take-append-seam}
 use borrow.Author.Tests.{leb-true, leb-false, ltb-false, le-leb, lt-leb, lt-ltb, le-ltb}
+use Rattle.basics.specs.Lists.{atFront}
 use Rattle.basics.specs.Refusals.{answer, outside}
-use Rattle.basics.proofs.Cases.{or-false}
+use Rattle.basics.proofs.Cases.{same-test, or-false}
 use Rattle.basics.proofs.Refusals.{passed, refused-with, done-by, Refuses, outcome-refuses}
 use Rattle.calendar.specs.Closed.{mostClosed, closedRefused}
 use Rattle.holidays.specs.Years.{firstYear}
 use Rattle.holidays.specs.Target.{closedFrom, yearsIn, targetDays, tooFew, lastYear, mostYears, badYears, targetRefusals}
-use Rattle.holidays.specs.Target.{targetNumber, targetDone, targetRefused, target, atFront, targetWords}
+use Rattle.holidays.specs.Target.{targetNumber, targetDone, targetRefused, target, targetWords}
 use Rattle.holidays.proofs.Rising.{closed-length, closed-taken}
-
--- two tests are the same if each holds where the other does
-same-test : (a b c d : ℕ) → (a ≤ b → c < d) → (b < a → d ≤ c) → leb a b ≡ ltb c d
-same-test a b c d holds fails = by (leb a b) refl
-  where
-    by : (t : Bool) → leb a b ≡ t → t ≡ ltb c d
-    by true e = sym (lt-ltb c d (holds (leb-true a b e)))
-    by false e = sym (le-ltb c d (fails (leb-false a b e)))
 
 module _ (first last : ℕ) where
   -- the words are too few if their sixth part is not above the difference of the years
   pub words-divided : (words : ℕ) → first ≤ last → leb (words / 6) (last - first) ≡ tooFew first last words
-  words-divided words h = same-test (words / 6) (last - first) words (6 * yearsIn first last) (λ l. omega arith) (λ l. omega arith)
+  words-divided words h =
+      same-test (leb (words / 6) (last - first)) (tooFew first last words)
+      (λ e. lt-ltb words (6 * yearsIn first last) (omega (arith, leb-true (words / 6) (last - first) e)))
+      (λ e. le-ltb words (6 * yearsIn first last) (omega (arith, leb-false (words / 6) (last - first) e)))
 
   -- no list is too short for years that are reversed
   pub reversed-none : (words : ℕ) → last < first → leb first last ≡ tooFew first last words
@@ -36,7 +32,10 @@ module _ (first last : ℕ) where
 
   -- there are more than eight years if their difference is eight or more
   pub more-years : first ≤ last → leb mostYears (last - first) ≡ ltb mostYears (yearsIn first last)
-  more-years h = same-test mostYears (last - first) mostYears (yearsIn first last) (λ l. omega arith) (λ l. omega arith)
+  more-years h =
+      same-test (leb mostYears (last - first)) (ltb mostYears (yearsIn first last))
+      (λ e. lt-ltb mostYears (yearsIn first last) (omega (arith, leb-true mostYears (last - first) e)))
+      (λ e. le-ltb mostYears (yearsIn first last) (omega (arith, leb-false mostYears (last - first) e)))
 
   -- the answer of Target is n exactly where n's condition holds and no smaller number's does
   pub target-refuses : (words : ℕ) → Refuses (targetRefusals first last words) (target first last words .answer)

@@ -1,6 +1,6 @@
 -- How many days years have, and how the dates of a year lie.
 use Prim.Native.Nat.{ℕ, zero, suc, _+_, _-_, _*_, _/_, _%_, _≤_, _<_}
-use native.Mathlib.Nat.{add-zero, zero-mul, suc-mul, div-add-mod', mod-lt, div-eq-of-lt-le}
+use native.Mathlib.Nat.{zero-mul, suc-mul, div-add-mod', mod-lt, div-eq-of-lt-le}
 use native.Mathlib.Omega.{arith}
 use mathlib.Core.Path.{_≡_, refl, ap, _∙_}
 use mathlib.Core.Bool.{Bool, true, false, not, _&&_, _||_}
@@ -152,14 +152,7 @@ dates y h =
       next = omega (arith, year-more y h, year-days y);
     }
 
--- ---- years one after another
--- no year begins before an earlier one
-pub years-rise : (y k : ℕ) → firstYear ≤ y → newYear y ≤ newYear (y + k)
-years-rise y zero h = omega (arith, ap newYear (add-zero y))
-years-rise y (suc k) h =
-    let next : y + k + 1 ≡ y + suc k = omega arith in
-    omega (arith, years-rise y k h, year-more (y + k) (omega arith), ap newYear next)
-
+-- ---- years that Target takes
 -- no year up to 2179 begins after day 65,535
 pub begins-early : (y : ℕ) → firstYear ≤ y → y ≤ lastYear + 1 → newYear y ≤ lastDay
 unfolding leapYears

@@ -5,24 +5,27 @@ use lib.Dec.{eqb, ltb}
 use Rattle.basics.specs.Choice.{pick}
 use Rattle.holidays.specs.Years.{dateOf}
 
--- H5, Closed days: the golden number, which counts the years of the moon's cycle of 19 years from 1 on
+-- H5, Closed days: the golden number is the remainder of the year by 19, and 1 more
 abbrev pub golden : ℕ → ℕ
 golden y = y % 19 + 1
 
--- H6, Closed days: the number of the century, which is 21 from 2000 to 2099
+-- H6, Closed days: the century's number is a hundredth of the year, rounded down, and 1 more: 21 from 2000 to 2099
 abbrev pub century : ℕ → ℕ
 century y = y / 100 + 1
 
--- H6, Closed days: the sun's correction grows by one with each century whose first year is no leap year, three of four
+-- H6, Closed days: the sun's correction is 3/4 of the century's number, rounded down, less 12. It grows by one with each
+-- century whose first year is no leap year.
 unfoldable pub sunCorrection : ℕ → ℕ
 sunCorrection y = 3 * century y / 4 - 12
 
--- H6, Closed days: the moon's correction grows by one eight times in 25 centuries
+-- H6, Closed days: the moon's correction is 8 times the century's number, plus 5, divided by 25 and rounded down, less 5.
+-- It grows by one eight times in 25 centuries.
 unfoldable pub moonCorrection : ℕ → ℕ
 moonCorrection y = (8 * century y + 5) / 25 - 5
 
--- H7, Closed days: the epact before its exceptions. The sun's correction is taken off. Before that it is added 30
--- times, which changes no remainder by 30, so that the difference is never below zero.
+-- H7, Closed days: the epact before its exceptions. It is the remainder by 30 of 11 times the golden number, plus 20,
+-- plus the moon's correction, less the sun's. The sun's is first added 30 times, so that the difference is never below
+-- zero.
 unfoldable pub plainEpact : ℕ → ℕ
 plainEpact y = (11 * golden y + 20 + moonCorrection y + 30 * sunCorrection y - sunCorrection y) % 30
 

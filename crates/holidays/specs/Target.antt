@@ -3,7 +3,8 @@ use Prim.Native.Nat.{ℕ, zero, suc, _+_, _-_, _*_, _≤_}
 use mathlib.Core.Bool.{Bool, _||_}
 use mathlib.Core.List.{List, [], _∷_, _++_}
 use lib.Dec.{ltb}
-use lib.ListN.{length, drop}
+use lib.ListN.{length}
+use Rattle.basics.specs.Lists.{atFront}
 use Rattle.basics.specs.Refusals.{Refusal, refuse, answer, outcome, outside}
 use Rattle.holidays.specs.declared.DaysWritten.{DaysWritten}
 use Rattle.holidays.specs.Years.{firstYear, dateOf}
@@ -17,7 +18,8 @@ goodFriday y = easter y - 2
 unfoldable pub easterMonday : ℕ → ℕ
 easterMonday y = easter y + 1
 
--- H11, Closed days: the closed days of a year are 1 January, Good Friday, Easter Monday, 1 May, 25 and 26 December
+-- H11, Closed days: the closed days of a year are 1 January, Good Friday, Easter Monday, 1 May, 25 and 26 December,
+-- whatever day of the week they are
 unfoldable pub closedIn : ℕ → List ℕ
 closedIn y = dateOf y 1 1 ∷ goodFriday y ∷ easterMonday y ∷ dateOf y 5 1 ∷ dateOf y 12 25 ∷ dateOf y 12 26 ∷ []
 
@@ -72,11 +74,8 @@ targetRefused n = record { answer = n; count = 0 }
 unfoldable pub target : ℕ → ℕ → ℕ → DaysWritten
 target first last words = outcome (targetNumber first last words) (targetDone first last) targetRefused
 
--- H12, Closed days: days stand at the front of a list, and each word behind them is as it was
-abbrev pub atFront : List ℕ → List ℕ → List ℕ
-atFront days ws = days ++ drop (length days) ws
-
--- H12, Closed days, and A5, Refusals: every word of the lent list as it ends
+-- H12, Closed days, and A5, Refusals: every word of the lent list as it ends. If Target is done, the days stand at the
+-- front, and each word behind them is as it was.
 unfoldable pub targetWords : ℕ → ℕ → List ℕ → List ℕ
 targetWords first last ws = outcome (targetNumber first last (length ws)) (atFront (targetDays first last) ws) (λ n. ws)
 

@@ -11,7 +11,7 @@ use Rattle.basics.specs.Lists.{sum}
 abbrev pub divides : ℕ → ℕ → Bool
 divides n y = eqb (y % n) 0
 
--- H2, Closed days: 4 divides a leap year, and if 100 divides it, 400 does too
+-- H2, Closed days: a year is a leap year if 4 divides it and, if 100 does, 400 does too
 unfoldable pub isLeap : ℕ → Bool
 isLeap y = divides 4 y && (not (divides 100 y) || divides 400 y)
 
@@ -32,6 +32,6 @@ daysOfYears (suc n) = daysOfYears n + sum (monthsOf (firstYear + n))
 unfoldable pub newYear : ℕ → ℕ
 newYear y = daysOfYears (y - firstYear)
 
--- H4, Closed days: the day of a date, which is given by the year, the number of the month and the day of the month
+-- H4, Closed days: the day of a date, given by year, month and day of the month: all days of the year before it are over
 unfoldable pub dateOf : ℕ → ℕ → ℕ → ℕ
 dateOf y month d = newYear y + sum (take (month - 1) (monthsOf y)) + (d - 1)

@@ -4,10 +4,11 @@ ghost use mathlib.Core.Path.{_≡_};
 ghost use Prim.Native.Nat.{_+_, _*_, _≤_};
 ghost use lib.ListN.{length};
 ghost use lib.Seq.{sets};
+ghost use Rattle.basics.specs.Lists.{atFront};
 ghost use Rattle.basics.specs.Refusals.{answer};
 ghost use Rattle.holidays.specs.Years.{firstYear, newYear, dateOf};
 ghost use Rattle.holidays.specs.Easter.{golden, plainEpact, epact, fullMoon, easter};
-ghost use Rattle.holidays.specs.Target.{Taken, closedIn, closedFrom, atFront, lastYear, tooFew, badYears};
+ghost use Rattle.holidays.specs.Target.{Taken, closedIn, closedFrom, lastYear, tooFew, badYears};
 ghost use Rattle.holidays.specs.Target.{targetRefusals, target, targetWords};
 
 // The year in which day 0 is 1 January; `firstYear` in specs/.

@@ -7,7 +7,7 @@ use mathlib.Core.Logic.{_⊎_, inl, inr, ⊎-elim}
 use mathlib.Core.Path.{_≡_, refl, sym, ap, _∙_}
 use lib.Dec.{ltb}
 use borrow.Author.Tests.{ltb-true, ltb-false, lt-ltb, le-ltb}
-use Rattle.basics.proofs.Cases.{never, below-or-not, lesser-case}
+use Rattle.basics.proofs.Cases.{never, same-test, below-or-not, lesser-case}
 use Rattle.basics.specs.Lists.{countBelow}
 use Rattle.netting.specs.Shares.{comesBefore, rank}
 use Rattle.basics.proofs.Counts.{more, count-within, count-same, count-most, count-less}
@@ -16,10 +16,7 @@ use Rattle.netting.specs.Accounts.{memberCount}
 -- two comparisons agree if each follows from the other
 ltb-same : (a b c d : ℕ) → (a < b → c < d) → (c < d → a < b) → ltb a b ≡ ltb c d
 ltb-same a b c d f g =
-    ⊎-elim
-    (λ (h : a < b). lt-ltb a b h ∙ sym (lt-ltb c d (f h)))
-    (λ (h : b ≤ a). le-ltb a b h ∙ sym (le-ltb c d (other h)))
-    (below-or-not a b)
+    same-test (ltb a b) (ltb c d) (λ e. lt-ltb c d (f (ltb-true a b e))) (λ e. le-ltb c d (other (ltb-false a b e)))
   where
     other : b ≤ a → d ≤ c
     other h = ⊎-elim (λ (l : c < d). let m = g l in absurd (omega arith)) (λ (l : d ≤ c). l) (below-or-not c d)

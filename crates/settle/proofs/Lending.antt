@@ -5,8 +5,8 @@ use mathlib.Core.List.{List, _++_}
 use lib.ListN.{length, take, drop, replicate, length-replicate}
 use lib.Seq.{take-append-seam, drop-append-seam}
 use Rattle.book.specs.declared.Closed.{Closed}
-use Rattle.answers.specs.declared.Answer.{Answer}
 use Rattle.answers.specs.Told.{closedTold}
+use Rattle.settle.specs.declared.calls.Played.{Played}
 use Rattle.settle.specs.Calls.{played}
 
 module _ (n value : ℕ) (words filled : List ℕ) (is : filled ≡ replicate n value ++ drop n words) where
@@ -26,14 +26,14 @@ module _ (n value : ℕ) (words filled : List ℕ) (is : filled ≡ replicate n 
   pub filled-length : length (take n filled) ≡ n
   filled-length = ap length filled-front ∙ length-replicate n value
 
--- A call that is lent words for its lines, as it was done with the words that were filled: it is told as the same call with
--- the words of its line, and the words behind those that it was lent are as they were.
-pub lines-answered : (n value : ℕ) (words filled : List ℕ) → filled ≡ replicate n value ++ drop n words → (call : List ℕ → Closed) (left : List ℕ → List ℕ)
-    (r : Closed) (us : List ℕ) {t : Answer} → r ≡ call (take n filled) → us ≡ left (take n filled) → t ≡ closedTold (r .answer) (r .count) n value →
-    let same = call (replicate n value) in
-    (played (r .book) t ≡ played (same .book) (closedTold (same .answer) (same .count) n value)) × (us ++ drop n filled ≡ left (replicate n value) ++ drop n words)
-lines-answered n value words filled is call left r us done ended told =
-    let front = filled-front n value words filled is in (
-      ap (played (r .book)) told ∙ ap (λ (x : Closed). played (x .book) (closedTold (x .answer) (x .count) n value)) (done ∙ ap call front),
-      ap₂ _++_ (ended ∙ ap left front) (filled-rest n value words filled is),
-    )
+  -- A call was made with the words that were filled. It is told as the same call with the words of its line, and the words
+  -- behind those that it was lent are as they were.
+  pub as-lent : {R T : Type 0} (call : List ℕ → R) (left : List ℕ → List ℕ) (told : R → T) (r : R) (us : List ℕ) {t : T}
+      → r ≡ call (take n filled) → us ≡ left (take n filled) → t ≡ told r
+      → (t ≡ told (call (replicate n value))) × (us ++ drop n filled ≡ left (replicate n value) ++ drop n words)
+  as-lent call left told r us done ended made =
+      (made ∙ ap told (done ∙ ap call filled-front), ap₂ _++_ (ended ∙ ap left filled-front) filled-rest)
+
+-- a Close or an Again as it is told
+abbrev pub toldByLines : ℕ → ℕ → Closed → Played
+toldByLines n value r = played (r .book) (closedTold (r .answer) (r .count) n value)

@@ -45,6 +45,10 @@ listIn a ns = between (a .from) (a .to) ns
 abbrev pub lentTo : Asked → List ℕ
 lentTo a = replicate (a .lent) (a .fill)
 
+-- the words that can be lent, after a call left those that it was lent as these; the others are as they were
+abbrev pub leftWith : Asked → List ℕ → List ℕ → List ℕ
+leftWith a lent ws = lent ++ drop (a .lent) ws
+
 -- how the outcome of a call is told: by numbers, by lines in the words that it was lent, or by payouts in these
 pub data Manner : Type 0 where
   by-numbers : Manner
@@ -96,11 +100,11 @@ answerBy by-numbers a o = numbersTold (o .answer ∷ o .results)
 answerBy by-lines a o = closedTold (o .answer) (getD (o .results) 0 0) (a .lent) (a .fill)
 answerBy by-payouts a o = wordsTold (o .answer ∷ []) (a .lent)
 
--- the words after a call: those that it was lent are as it left them, and the others are as they were
+-- the words after a call
 unfoldable pub wordsBy : Manner → Asked → Outcome → List ℕ → List ℕ
 wordsBy by-numbers a o ws = ws
-wordsBy by-lines a o ws = o .words ++ drop (a .lent) ws
-wordsBy by-payouts a o ws = o .words ++ drop (a .lent) ws
+wordsBy by-lines a o ws = leftWith a (o .words) ws
+wordsBy by-payouts a o ws = leftWith a (o .words) ws
 
 -- the book and the answer after a call
 abbrev pub afterCall : Book → Asked → Asking → Played
@@ -176,9 +180,9 @@ writtenAs r lent = wordsTold (r .answer ∷ r .count ∷ []) lent
 abbrev pub targets : Asked → Answer
 targets a = writtenAs (target (a .first) (a .second) (a .lent)) (a .lent)
 
--- the words after a target: those that it was lent are as it left them, and the others are as they were
+-- the words after a target
 abbrev pub wordsTargeted : Asked → List ℕ → List ℕ
-wordsTargeted a ws = targetWords (a .first) (a .second) (lentTo a) ++ drop (a .lent) ws
+wordsTargeted a ws = leftWith a (targetWords (a .first) (a .second) (lentTo a)) ws
 
 -- the edition of the rules: the number of the latest change in docs/RULES.md
 abbrev pub edition : ℕ

@@ -1,10 +1,10 @@
 -- `month` meets its contract.
 use Prim.Native.Nat.{ℕ}
 use lib.ListN.{length}
-use mathlib.Core.List.{List, [], _∷_, _++_}
-use mathlib.Core.Path.{sym, ap, ap₂, _∙_}
+use mathlib.Core.List.{List, [], _∷_}
+use mathlib.Core.Path.{sym, ap}
 use borrow.Author.Needs.{needs}
-use Rattle.settle.proofs.Lending.{filled-front, filled-rest, filled-length}
+use Rattle.settle.proofs.Lending.{filled-length, as-lent}
 use Rattle.settle.specs.Calls.{played, listIn, answerBy, wordsBy}
 use Rattle.settle.specs.declared.calls.Played.{Played}
 use Rattle.book.specs.Month.{month, monthWords}
@@ -55,17 +55,12 @@ returns c =
     let a = s .args .a in
     let done = called .month in
     let f = filled .fill .ensures in
-    let front = filled-front (a .lent) (a .fill) (s .args .words .now) _ f in
     let given = listIn a (s .args .n .now) in
-    let told : Done → Played = λ (r : Done). played (r .book) (wordsTold (r .answer ∷ []) (a .lent)) in (
-      ap (played (done .result .book)) (c .with-words .ensures)
-          ∙ ap told (done .ensures .0 ∙ ap (λ (ws : List ℕ). month (s .args .book) given (length ws)) front),
-      (
-        ap₂ _++_ (done .ensures .1 .0 ∙ ap (monthWords (s .args .book) given) front)
-            (filled-rest (a .lent) (a .fill) (s .args .words .now) _ f),
-        done .ensures .1 .1 .0,
-      ),
-    )
+    let told : Done → Played = λ (r : Done). played (r .book) (wordsTold (r .answer ∷ []) (a .lent)) in
+    let is =
+    as-lent (a .lent) (a .fill) (s .args .words .now) _ f (λ (ws : List ℕ). month (s .args .book) given (length ws)) (monthWords (s .args .book) given) told
+    (done .result) _ (done .ensures .0) (done .ensures .1 .0) (ap (played (done .result .book)) (c .with-words .ensures)) in
+    (is .0, (is .1, done .ensures .1 .1 .0))
 
 pub month-spec : {M : Type 1} → statement M
 month-spec =
