@@ -13,13 +13,13 @@ golden y = y % 19 + 1
 abbrev pub century : ℕ → ℕ
 century y = y / 100 + 1
 
--- H6, Closed days: the sun's correction is 3/4 of the century's number, rounded down, less 12. It grows by one with each
--- century whose first year is no leap year.
+-- H6, Closed days: the sun's correction is 3/4 of the century's number, rounded down, less 12. It grows by one with
+-- each century whose first year is no leap year.
 unfoldable pub sunCorrection : ℕ → ℕ
 sunCorrection y = 3 * century y / 4 - 12
 
--- H6, Closed days: the moon's correction is 8 times the century's number, plus 5, divided by 25 and rounded down, less 5.
--- It grows by one eight times in 25 centuries.
+-- H6, Closed days: the moon's correction is 8 times the century's number, plus 5, divided by 25 and rounded down, less
+-- 5. It grows by one eight times in 25 centuries.
 unfoldable pub moonCorrection : ℕ → ℕ
 moonCorrection y = (8 * century y + 5) / 25 - 5
 

@@ -32,6 +32,7 @@ daysOfYears (suc n) = daysOfYears n + sum (monthsOf (firstYear + n))
 unfoldable pub newYear : ℕ → ℕ
 newYear y = daysOfYears (y - firstYear)
 
--- H4, Closed days: the day of a date, given by year, month and day of the month: all days of the year before it are over
+-- H4, Closed days: the day of a date, which is given by its year, its month and its day in the month. The years before,
+-- the months before in its year and the days before in its month come ahead of it.
 unfoldable pub dateOf : ℕ → ℕ → ℕ → ℕ
 dateOf y month d = newYear y + sum (take (month - 1) (monthsOf y)) + (d - 1)
