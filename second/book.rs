@@ -1,6 +1,6 @@
 //! The settlement discipline book of one bond.
 //!
-//! "Rules" in the comments names a chapter of the rules and an item of it, "P1" or "P2" the change
+//! "Rules" in the comments names a chapter of the rules and an item of it, "P1", "P2" or "P4" the change
 //! request of that number. Every call tests its refusals in rising order of their numbers and changes
 //! the book only when it is accepted. The call of P3 takes no book; it is in `holidays.rs`.
 
@@ -34,8 +34,8 @@ const OFFER_PRICES: RangeInclusive<u64> = 1..=200_000;
 /// The kinds of a Close's lines (rules, Close).
 const PENALTY: u64 = 1;
 const NOTICE: u64 = 2;
-const BOUGHT: u64 = 3;
-const COMPENSATED: u64 = 4;
+pub const BOUGHT: u64 = 3;
+pub const COMPENSATED: u64 = 4;
 
 /// The number of a refusal (rules, Refusals).
 pub type Refusal = u8;
@@ -57,7 +57,7 @@ fn no_member(member: u64) -> bool {
 }
 
 /// A number as a place in a list; one too large for any list names no place.
-fn place(number: u64) -> usize {
+pub fn place(number: u64) -> usize {
     usize::try_from(number).unwrap_or(usize::MAX)
 }
 
@@ -121,7 +121,7 @@ pub struct Terms {
     pub last: u64,
 }
 
-const TERMS: [Terms; 2] = [
+pub const TERMS: [Terms; 2] = [
     Terms {
         notice: 29,
         grace: 30,
@@ -163,7 +163,7 @@ fn tolerance(delivering_amount: u64) -> u64 {
 }
 
 /// Rules, Buy-in: the cap over the price of the Close at age = grace.
-fn within_cap(offer_price: u64, grace_price: u64) -> bool {
+pub fn within_cap(offer_price: u64, grace_price: u64) -> bool {
     100 * offer_price <= 108 * grace_price
 }
 
@@ -272,7 +272,7 @@ impl Obligation {
 
     /// Rules, Deliver: the cash for a further quantity delivered or bought in.
     /// A x t is at most 20,000,000,000 x 100,000.
-    fn cash_for(&self, quantity: u64) -> u64 {
+    pub fn cash_for(&self, quantity: u64) -> u64 {
         let before = self.delivered + self.bought_in;
         let after = before + quantity;
         self.amount * after / self.quantity - self.amount * before / self.quantity
@@ -290,7 +290,7 @@ impl Obligation {
     }
 
     /// Rules, Close: one offer's turn, which gives the quantity and the charge.
-    fn buy_in(&mut self, offer: &Offer) -> (u64, u64) {
+    pub fn buy_in(&mut self, offer: &Offer) -> (u64, u64) {
         let quantity = offer.quantity.min(self.outstanding());
         let value = quantity * offer.price;
         let charge = value.saturating_sub(self.cash_for(quantity));
@@ -644,14 +644,14 @@ impl Book {
     }
 }
 
-/// Rules, Close: offers by rising price, then larger offered quantity, then earlier entry.
+/// Rules, Close, as P4 has it: offers by rising price, then earlier entry, however large they are.
 fn auction_order(offers: &[Offer], obligation: usize) -> Vec<&Offer> {
     let mut queue: Vec<&Offer> = offers
         .iter()
         .filter(|o| o.obligation == obligation)
         .collect();
     // The sort is stable: what ties stays in the order of entry.
-    queue.sort_by_key(|offer| (offer.price, Reverse(offer.quantity)));
+    queue.sort_by_key(|offer| offer.price);
     queue
 }
 
@@ -767,6 +767,50 @@ mod tests {
         }
         let lines = close(&mut book, 100_000, 0);
         (book, lines)
+    }
+
+    /// A bought line of obligation 0: quantity, cents, supplier, offer price.
+    type Bought = [u64; 4];
+
+    /// A book of the terms on the n-th day of the buy-in of an obligation of 10 units for 1,000,000 cents.
+    fn buy_in_day(terms: u64, n: u64) -> Book {
+        let mut book = book(terms);
+        oblige(&mut book, 10, 1_000_000, 2);
+        let days = book.terms.grace + n;
+        close_times(&mut book, days, 100_000);
+        book
+    }
+
+    /// Enters offers for obligation 0, each a quantity and a price. The suppliers are 11, 12 and so on.
+    fn offer_all(book: &mut Book, offers: &[(u64, u64)]) {
+        for (supplier, &(quantity, price)) in (11..).zip(offers) {
+            book.offer(0, supplier, quantity, price).unwrap();
+        }
+    }
+
+    /// The bought lines of a Close, after the penalty.
+    fn bought(book: &mut Book) -> Vec<Bought> {
+        let lines = close(book, 100_000, 0);
+        assert_eq!(lines[0][..2], [PENALTY, 0]);
+        let bought = lines.iter().filter(|line| line[0] == BOUGHT);
+        bought
+            .map(|&[_, _, quantity, cents, supplier, price]| [quantity, cents, supplier, price])
+            .collect()
+    }
+
+    /// Checks the bought lines of the offers on every day of the buy-in, whichever terms there are.
+    fn assert_bought(offers: &[(u64, u64)], expected: &[Bought]) {
+        for (terms, days) in [(0, 5), (1, 3)] {
+            for day in 1..=days {
+                let mut book = buy_in_day(terms, day);
+                offer_all(&mut book, offers);
+                assert_eq!(
+                    bought(&mut book),
+                    expected,
+                    "terms {terms}, day {day}: {offers:?}"
+                );
+            }
+        }
     }
 
     fn match_of(delivering: u64, receiving: u64, delivering_first: bool) -> u64 {
@@ -897,6 +941,146 @@ mod tests {
             ]
         );
         assert_eq!(book.status(0), Ok([10, 0, 10, 0, 0, 0]));
+    }
+
+    #[test]
+    fn at_one_price_the_earlier_offer_comes_first() {
+        assert_bought(
+            &[(10, 101_000), (12, 101_000)],
+            &[[10, 10_000, 11, 101_000]],
+        );
+        assert_bought(
+            &[(12, 101_000), (10, 101_000)],
+            &[[10, 10_000, 11, 101_000]],
+        );
+        assert_bought(
+            &[(10, 101_000), (10, 101_000)],
+            &[[10, 10_000, 11, 101_000]],
+        );
+        // The small lot gives all it has, the large one the rest. The large one alone would be one line.
+        let both = [[2, 2_000, 11, 101_000], [8, 8_000, 12, 101_000]];
+        assert_bought(&[(2, 101_000), (12, 101_000)], &both);
+        assert_bought(&[(12, 101_000), (2, 101_000)], &[[10, 10_000, 11, 101_000]]);
+        // All give all they have, so that only the order of the lines shows who came first.
+        let rising = [1, 3, 2].map(|quantity| (quantity, 101_000));
+        let lines = [
+            [1, 1_000, 11, 101_000],
+            [3, 3_000, 12, 101_000],
+            [2, 2_000, 13, 101_000],
+        ];
+        assert_bought(&rising, &lines);
+    }
+
+    #[test]
+    fn a_lower_price_comes_first_whatever_the_entry() {
+        let offers = [
+            (3, 101_000),
+            (9, 101_000),
+            (4, 100_900),
+            (1, 101_001),
+            (2, 100_900),
+        ];
+        let lines = [
+            [4, 3_600, 13, 100_900],
+            [2, 1_800, 15, 100_900],
+            [3, 3_000, 11, 101_000],
+            [1, 1_000, 12, 101_000],
+        ];
+        assert_bought(&offers, &lines);
+    }
+
+    #[test]
+    fn an_offer_behind_the_last_unit_has_no_line() {
+        let offers = [4, 6, 1].map(|quantity| (quantity, 101_000));
+        assert_bought(&offers, &[[4, 4_000, 11, 101_000], [6, 6_000, 12, 101_000]]);
+    }
+
+    #[test]
+    fn offers_for_other_obligations_take_no_turn() {
+        let mut book = book(1);
+        for _ in 0..2 {
+            oblige(&mut book, 10, 1_000_000, 2);
+        }
+        close_times(&mut book, 11, 100_000);
+        for (number, supplier, quantity) in [(0, 1, 3), (1, 2, 9), (0, 2, 9), (1, 1, 3)] {
+            book.offer(number, supplier, quantity, 101_000).unwrap();
+        }
+        let expected = [
+            [1, 0, 10, 0, 0, 0],
+            [3, 0, 3, 3_000, 1, 101_000],
+            [3, 0, 7, 7_000, 2, 101_000],
+            [1, 1, 10, 0, 0, 0],
+            [3, 1, 9, 9_000, 2, 101_000],
+            [3, 1, 1, 1_000, 1, 101_000],
+        ];
+        assert_eq!(close(&mut book, 100_000, 0), expected);
+        assert_eq!(again(&book), Ok(expected.to_vec()));
+    }
+
+    #[test]
+    fn what_stands_between_two_offers_leaves_their_order() {
+        let mut book = buy_in_day(1, 1);
+        book.offer(0, 11, 2, 101_000).unwrap();
+        for (answer, supplier, quantity, price) in [
+            (1, 1_000, 5, 101_000),
+            (2, 12, 0, 101_000),
+            (3, 12, 5, 200_001),
+            (18, 12, 5, 108_001),
+        ] {
+            assert_eq!(book.offer(0, supplier, quantity, price), Err(answer));
+        }
+        assert_eq!(book.close(0, 0, &mut [77; CLOSE_WORDS]), Err(3));
+        assert_eq!(again(&book), Ok(vec![[1, 0, 10, 0, 0, 0]]));
+        month(&mut book, &[]).unwrap();
+        book.cancel(0, 0).unwrap();
+        book.deliver(0, 3).unwrap();
+        book.offer(0, 12, 9, 101_000).unwrap();
+        let expected = [[2, 2_000, 11, 101_000], [5, 5_000, 12, 101_000]];
+        assert_eq!(bought(&mut book), expected);
+    }
+
+    #[test]
+    fn the_offers_of_the_day_before_have_no_turn() {
+        let mut book = buy_in_day(1, 1);
+        offer_all(&mut book, &[(1, 101_000), (2, 101_000)]);
+        assert_eq!(bought(&mut book).len(), 2);
+        book.offer(0, 21, 1, 101_000).unwrap();
+        book.offer(0, 22, 9, 101_000).unwrap();
+        let expected = [[1, 1_000, 21, 101_000], [6, 6_000, 22, 101_000]];
+        assert_eq!(bought(&mut book), expected);
+    }
+
+    #[test]
+    fn sixty_four_offers_at_one_price_stay_in_their_order() {
+        for (quantity, lines) in [(2_080, 64), (2_079, 64), (2_016, 63), (1, 1)] {
+            let mut book = book(1);
+            oblige(&mut book, quantity, 1, 2);
+            close_times(&mut book, 13, 100_000);
+            let offers: Vec<(u64, u64)> = (1..=64).map(|units| (units, 7)).collect();
+            offer_all(&mut book, &offers);
+            assert_eq!(book.offer(0, 1, 1, 7), Err(17));
+            let bought = bought(&mut book);
+            let suppliers: Vec<u64> = bought.iter().map(|line| line[2]).collect();
+            assert_eq!(
+                suppliers,
+                (11..11 + lines).collect::<Vec<u64>>(),
+                "{quantity}"
+            );
+        }
+    }
+
+    #[test]
+    fn the_cash_goes_on_in_the_order_of_the_offers() {
+        // 1 of 3 units is worth 333 cents of 1,000 and the other two 667; in the other order the two are
+        // worth 666 and the one 334.
+        for (quantities, cents) in [([1, 2], [1, 1]), ([2, 1], [2, 0])] {
+            let mut book = book(1);
+            oblige(&mut book, 3, 1_000, 2);
+            close_times(&mut book, 11, 100_000);
+            offer_all(&mut book, &quantities.map(|quantity| (quantity, 334)));
+            let charges: Vec<u64> = bought(&mut book).iter().map(|line| line[1]).collect();
+            assert_eq!(charges, cents);
+        }
     }
 
     #[test]

@@ -230,6 +230,11 @@ impl<W: Write> Generator<W> {
         Ok(())
     }
 
+    /// The long lists alone: few seeds would meet them all if they stood in `targets` only.
+    pub fn long_targets(&mut self) -> io::Result<()> {
+        self.all_of(&LONG)
+    }
+
     /// All Targets of a list, in any order.
     fn all_of(&mut self, edges: &[Edge]) -> io::Result<()> {
         let mut left = edges.to_vec();

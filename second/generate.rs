@@ -2,13 +2,14 @@
 //!
 //! The generator plays its own journal on the book, so that it can aim: it knows the waiting legs,
 //! the open obligations, their ages and the accounts. `aim` makes plausible calls and spoils them,
-//! `scenario`, `paid` and `closed_days` string them together, `malformed` makes lines that are no calls,
-//! `ending` makes the last line.
+//! `scenario`, `paid`, `closed_days` and `equal_prices` string them together, `malformed` makes lines that
+//! are no calls, `ending` makes the last line.
 
 mod aim;
 mod book;
 mod closed_days;
 mod ending;
+mod equal_prices;
 mod holidays;
 mod journal;
 mod malformed;

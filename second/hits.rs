@@ -8,6 +8,7 @@ use crate::month_traps::MonthTraps;
 use crate::play::Player;
 use crate::target_traps::TargetTraps;
 use crate::traps::Traps;
+use crate::turn_traps::TurnTraps;
 
 /// The answer numbers that each call can give, in the order of the names.
 const ANSWERS: [&[Refusal]; NAMES.len()] = [
@@ -26,6 +27,7 @@ const ANSWERS: [&[Refusal]; NAMES.len()] = [
     &[0, 5, 23],
     &[0],
 ];
+const OFFER: usize = 5;
 const CLOSE: usize = 6;
 const MONTH: usize = 7;
 const AGAIN: usize = 11;
@@ -63,6 +65,7 @@ pub struct Hits {
     again_traps: Traps,
     month_traps: MonthTraps,
     target_traps: TargetTraps,
+    turn_traps: TurnTraps,
     malformed: u64,
     torn: [u64; TORN.len()],
     whole: u64,
@@ -77,6 +80,7 @@ impl Hits {
             again_traps: Traps::default(),
             month_traps: MonthTraps::default(),
             target_traps: TargetTraps::new(),
+            turn_traps: TurnTraps::new(),
             malformed: 0,
             torn: [0; TORN.len()],
             whole: 0,
@@ -117,6 +121,7 @@ impl Hits {
         self.again_traps.call(place, call, answer, lines.len());
         self.month_traps.call(call, answer, accounts);
         self.target_traps.call(played);
+        self.turn_traps.call(played);
     }
 
     /// A whole line that is no call; the torn ones are counted apart.
@@ -135,8 +140,8 @@ impl Hits {
     }
 
     /// One line for each pair of a call and an answer it can give, also for those not reached,
-    /// for the kinds of a Close's lines and the traps of Again, Month and Target, and for the lines that
-    /// are no calls and the ways in which a journal can end.
+    /// for the kinds of a Close's lines and the traps of Again, Month, Target and auctions, and for the
+    /// lines that are no calls and the ways in which a journal can end.
     pub fn table(&self, calls: &CallSet) -> String {
         let mut table = String::new();
         let mut row =
@@ -156,20 +161,8 @@ impl Hits {
                 row(format_args!("kind {kind} {count}"));
             }
         }
-        if calls.has(AGAIN) {
-            for (trap, count) in self.again_traps.rows() {
-                row(format_args!("trap {trap} {count}"));
-            }
-        }
-        if calls.has(MONTH) {
-            for (trap, count) in self.month_traps.rows() {
-                row(format_args!("trap {trap} {count}"));
-            }
-        }
-        if calls.has(TARGET) {
-            for (trap, count) in self.target_traps.rows() {
-                row(format_args!("trap {trap} {count}"));
-            }
+        for (trap, count) in self.trap_rows(calls) {
+            row(format_args!("trap {trap} {count}"));
         }
         row(format_args!("malformed {}", self.malformed));
         for (says, count) in TORN.iter().zip(self.torn) {
@@ -178,6 +171,24 @@ impl Hits {
         row(format_args!("whole last line {}", self.whole));
         row(format_args!("end {}", self.ends));
         table
+    }
+
+    /// The traps of the calls that exist, with their counts. An auction needs an Offer and a Close.
+    fn trap_rows(&self, calls: &CallSet) -> Vec<(&'static str, u64)> {
+        let mut rows = Vec::new();
+        if calls.has(AGAIN) {
+            rows.extend(self.again_traps.rows());
+        }
+        if calls.has(MONTH) {
+            rows.extend(self.month_traps.rows());
+        }
+        if calls.has(TARGET) {
+            rows.extend(self.target_traps.rows());
+        }
+        if calls.has(OFFER) && calls.has(CLOSE) {
+            rows.extend(self.turn_traps.rows());
+        }
+        rows
     }
 }
 
@@ -198,7 +209,7 @@ fn index(call: &Call) -> usize {
         Call::Withdraw { .. } => 2,
         Call::Cancel { .. } => 3,
         Call::Deliver { .. } => 4,
-        Call::Offer { .. } => 5,
+        Call::Offer { .. } => OFFER,
         Call::Close { .. } => CLOSE,
         Call::Month { .. } => MONTH,
         Call::Status { .. } => 8,
@@ -262,6 +273,8 @@ mod tests {
             "target 23 0",
             "trap target-all-years 0",
             "trap target-open-eight-years 0",
+            "trap turn-64-of-64 0",
+            "trap turn-then-again 0",
             "torn comment 0",
             "end 0",
         ] {
@@ -272,15 +285,17 @@ mod tests {
     #[test]
     fn a_call_that_is_not_listed_has_no_traps() {
         for (list, traps) in [
-            ("open,close,rules", [false, false, false]),
-            ("open,close,again", [true, false, false]),
-            ("open,close,month", [false, true, false]),
-            ("open,close,target", [false, false, true]),
+            ("open,close,rules", [false, false, false, false]),
+            ("open,close,again", [true, false, false, false]),
+            ("open,close,month", [false, true, false, false]),
+            ("open,close,target", [false, false, true, false]),
+            ("open,close,offer", [false, false, false, true]),
+            ("open,offer", [false, false, false, false]),
         ] {
             let calls = CallSet::listed(list).unwrap();
             let table = Hits::new().table(&calls);
-            let listed =
-                ["again", "month", "target"].map(|name| table.contains(&format!("trap {name}-")));
+            let listed = ["again", "month", "target", "turn"]
+                .map(|name| table.contains(&format!("trap {name}-")));
             assert_eq!(listed, traps, "{list}");
         }
     }

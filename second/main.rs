@@ -1,6 +1,7 @@
 //! `second`: plays a journal of a settlement discipline book, or checks another program's answers.
 
 mod after_target;
+mod auction;
 mod book;
 mod check;
 mod hits;
@@ -11,6 +12,7 @@ mod month_traps;
 mod play;
 mod target_traps;
 mod traps;
+mod turn_traps;
 mod twins;
 
 use std::env;
@@ -276,9 +278,9 @@ mod tests {
     fn the_end_counts_every_line() {
         assert_eq!(answers(b""), "end 0\n");
         assert_eq!(answers(b"\n"), "end 1\n");
-        assert_eq!(answers(b"#\n\nrules\nx\n"), "0 3\n? line 4\nend 4\n");
-        assert_eq!(answers(b"rules\n#"), "0 3\nend 2\n");
-        assert_eq!(answers(b"rules\n\nx"), "0 3\n? line 3\nend 3\n");
+        assert_eq!(answers(b"#\n\nrules\nx\n"), "0 4\n? line 4\nend 4\n");
+        assert_eq!(answers(b"rules\n#"), "0 4\nend 2\n");
+        assert_eq!(answers(b"rules\n\nx"), "0 4\n? line 3\nend 3\n");
     }
 
     #[test]
@@ -955,21 +957,21 @@ mod tests {
 
     #[test]
     fn the_end_is_compared() {
-        let missing = difference(b"rules\n", "0 3\n").unwrap();
+        let missing = difference(b"rules\n", "0 4\n").unwrap();
         assert_eq!(
             missing,
             "line 1: (the end of the journal)\nexpected: end 1\ngiven:    (nothing)\n\
             The last line of the answers is missing.\n"
         );
         assert!(difference(b"", "").unwrap().contains("is missing"));
-        assert!(difference(b"rules\n", "0 3\nend 1")
+        assert!(difference(b"rules\n", "0 4\nend 1")
             .unwrap()
             .ends_with("given:    end 1 (and no line feed)\n"));
         for given in [
-            "0 3\nend 0\n",
-            "0 3\nend 2\n",
-            "0 3\nend 1\n\n",
-            "0 2\nend 1\n",
+            "0 4\nend 0\n",
+            "0 4\nend 2\n",
+            "0 4\nend 1\n\n",
+            "0 3\nend 1\n",
             "end 1\n",
         ] {
             assert!(difference(b"rules\n", given).is_some(), "{given:?}");
@@ -1027,7 +1029,7 @@ mod tests {
         let mut run = Run::new(Broken(b"rules\nx\nopen 9 1 0"), CallSet::all());
         let mut out = Vec::new();
         assert!(run.play_all(&mut out).is_err());
-        assert_eq!(out, b"0 3\n? line 2\n");
+        assert_eq!(out, b"0 4\n? line 2\n");
         assert_eq!(run.player.book.today, 2);
     }
 

@@ -11,29 +11,33 @@ impl<W: Write> Generator<W> {
         self.readings = self.random.pick(&[5, 20, 40, 60]);
         self.noise = self.random.pick(&[0, 2, 5, 10, 25]);
         self.targets = self.random.pick(&[0, 0, 1, 3]);
-        match self.random.below(142) {
-            0..=18 => self.mixed_life(),
-            19..=34 => self.stages(),
-            35..=46 => self.auctions(),
-            47..=49 => self.full_auction(),
-            50..=59 => self.matching(),
-            60..=68 => self.months(),
-            69..=75 => self.refusals(),
-            76..=79 => self.openings(),
-            80..=83 => self.refused_open(),
-            84..=88 => self.end_of_calendar(),
-            89..=91 => self.crowd(),
-            92..=95 => self.heavy_crowd(),
-            96 | 97 => self.many_legs(),
-            98 | 99 => self.long_life(),
-            100 | 101 => self.scrawl(),
-            102..=107 => self.jams(),
-            108..=115 => self.everybody_paid(),
-            116..=126 => self.twins(),
-            127..=131 => self.targets(),
-            132..=134 => self.targets_amid_life(),
-            135 | 136 => self.each_call_after_a_target(),
-            _ => self.opened_by_targets(),
+        match self.random.below(192) {
+            0..=15 => self.mixed_life(),
+            16..=30 => self.stages(),
+            31..=42 => self.auctions(),
+            43..=45 => self.full_auction(),
+            46..=55 => self.matching(),
+            56..=64 => self.months(),
+            65..=71 => self.refusals(),
+            72..=75 => self.openings(),
+            76..=79 => self.refused_open(),
+            80..=84 => self.end_of_calendar(),
+            85..=90 => self.crowd(),
+            91..=98 => self.heavy_crowd(),
+            99 | 100 => self.many_legs(),
+            101 | 102 => self.long_life(),
+            103 | 104 => self.scrawl(),
+            105..=110 => self.jams(),
+            111..=118 => self.everybody_paid(),
+            119..=142 => self.twins(),
+            143..=149 => self.targets(),
+            150 | 151 => self.long_targets(),
+            152..=154 => self.targets_amid_life(),
+            155..=157 => self.each_call_after_a_target(),
+            158..=163 => self.opened_by_targets(),
+            164..=183 => self.first_come(),
+            184..=187 => self.one_price_for_all(),
+            _ => self.crowd_of_prices(),
         }
     }
 
@@ -642,7 +646,7 @@ impl<W: Write> Generator<W> {
     }
 
     /// A Close that is refused by 3 or by 5.
-    fn refused_close(&mut self) -> io::Result<()> {
+    pub fn refused_close(&mut self) -> io::Result<()> {
         let mut arguments = self.close_arguments();
         match self.random.below(4) {
             0 => arguments[0] = self.random.pick(&[0, 150_001]),
@@ -653,7 +657,7 @@ impl<W: Write> Generator<W> {
     }
 
     /// The lines of the latest Close once more, at times twice in a row.
-    fn jam(&mut self) -> io::Result<()> {
+    pub fn jam(&mut self) -> io::Result<()> {
         for _ in 0..self.random.pick(&[1, 1, 2]) {
             self.plausible("again")?;
         }

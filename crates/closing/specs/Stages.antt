@@ -52,10 +52,10 @@ boughtAll n [] o = nothing o
 boughtAll n (g ∷ gs) o = then (boughtFrom n g o) (boughtAll n gs)
 
 -- C7, Close: the buy-in, at ages above grace up to last. The offers for the obligation give in the order of the list
--- `offers`. In a book this is the order of C7: rising price, then larger quantity, then earlier entry. It comes from
--- offers/specs: Offer puts each new offer at its place among those that the book holds (`withOffer` in Held.antt), and
--- `overtakes` in Rank.antt says which place that is. The clause `buy-ins` of the promise in journal/proofs/Demand3.antt says
--- the same of every Close of every journal, from the offers as they were entered.
+-- `offers`. In a book this is the order of C7: rising price, then earlier entry. It comes from offers/specs: Offer puts
+-- each new offer at its place among those that the book holds (`withOffer` in Held.antt), and `overtakes` in Rank.antt
+-- says which place that is. The clause `buy-ins` of the promise in journal/proofs/Demand3.antt says the same of every
+-- Close of every journal, from the offers as they were entered.
 unfoldable pub buyInAt : Terms → ℕ → List Offer → ℕ → Obligation → Made
 buyInAt terms age offers n o =
     pick (inBuyIn terms age) (boughtAll n (given n (o .parts .outstanding) offers) o) (nothing o)

@@ -48,8 +48,8 @@ use Rattle.book.specs.declared.Done.{Done}
 use Rattle.book.specs.Instructing.{doneRefused}
 use Rattle.journal.specs.Calls.{Call}
 use Rattle.journal.specs.Played.{outcome, eventOf, begun}
-use Rattle.examples.specs.Played.{opening, bookAfter, eventsOn, numbersOf, accepted, answersOf, shown, sale, closeAt, daysPass, toBuyIn, compensationPlayed, capOffers, capPlayed, matchPlayed, deliversPlayed, auctionOffers, auctionPlayed, collecting, everybodyPaid, monthPlayed, answerWithLines, answersWithLines, twoSales, againLent, reprintPlayed}
-use Rattle.examples.specs.Table.{table, boughtFrom, nthDay, dayNumber, oneOfThree, threeCash, compensatedFor, boughtInTwo, twoPenalties, paidInFull, targetShown}
+use Rattle.examples.specs.Played.{opening, bookAfter, eventsOn, numbersOf, accepted, answersOf, shown, sale, closeAt, daysPass, toBuyIn, compensationPlayed, capOffers, capPlayed, matchPlayed, deliversPlayed, auctionOffers, equalOffers, auctionPlayed, collecting, everybodyPaid, monthPlayed, answerWithLines, answersWithLines, twoSales, againLent, reprintPlayed}
+use Rattle.examples.specs.Table.{table, boughtFrom, nthDay, dayNumber, oneOfThree, threeCash, compensatedFor, boughtInTwo, boughtInOne, twoPenalties, paidInFull, targetShown}
 
 -- the n-th clearing day is found by counting the clearing days up to it
 nth : (cs : List Day) (j e n : ℕ) → j ≤ e → e ≤ lastDay → clearing cs (day e) ≡ true → clearingWithin cs j (e - j) ≡ n →
@@ -143,14 +143,24 @@ capped = refl
 pub example-4 : capPlayed ≡ accepted 13 ++ 0 ∷ 18 ∷ []
 example-4 = ten-days (closeAt 99999 0 ∷ []) capOffers ∙ capped
 
--- X10, Settled examples: the same with the three offers and their Close
-bought : goesOn (closeAt 100000 0 ∷ []) (auctionOffers ++ closeAt 100000 0 ∷ []) (accepted 12) (onDay 16 0 (sold 10 1000000))
-    ≡ accepted 16 ++ boughtInTwo
-unfolding rules
-bought = refl
+-- X10 and X14, Settled examples: the Close at age = grace, the offers of the next day and the Close of that day
+abbrev auctionFrom : List Call → List ℕ
+auctionFrom offers =
+    goesOn (closeAt 100000 0 ∷ []) (offers ++ closeAt 100000 0 ∷ []) (accepted 12) (onDay 16 0 (sold 10 1000000))
 
-pub example-10 : auctionPlayed ≡ accepted 16 ++ boughtInTwo
-example-10 = ten-days (closeAt 100000 0 ∷ []) (auctionOffers ++ closeAt 100000 0 ∷ []) ∙ bought
+bought : (auctionFrom auctionOffers ≡ accepted 16 ++ boughtInTwo)
+    × (auctionFrom equalOffers ≡ accepted 15 ++ boughtInOne)
+unfolding rules
+bought = (refl, refl)
+
+auction : (offers : List Call) → auctionPlayed offers ≡ auctionFrom offers
+auction offers = ten-days (closeAt 100000 0 ∷ []) (offers ++ closeAt 100000 0 ∷ [])
+
+pub example-10 : auctionPlayed auctionOffers ≡ accepted 16 ++ boughtInTwo
+example-10 = auction auctionOffers ∙ bought .0
+
+pub example-14 : auctionPlayed equalOffers ≡ accepted 15 ++ boughtInOne
+example-14 = auction equalOffers ∙ bought .1
 
 -- ---- journals of one day
 -- X5 and X6, Settled examples
@@ -229,21 +239,36 @@ pub example-12 : (monthPlayed twoSales (collecting 300) ≡ paidInFull) × (mont
 unfolding rules
 example-12 = (refl, refl)
 
--- X10, Settled examples: supplier, quantity and cents in the words of two lines of a Close, the second and the third
+-- X10 and X14, Settled examples: supplier, quantity and cents in the words of the second line of a Close
+abbrev pub oneBought : List ℕ → List ℕ
+oneBought words = getD words 10 0 ∷ getD words 8 0 ∷ getD words 9 0 ∷ []
+
+-- X10, Settled examples: the same of the second line and the third
 abbrev pub twoBought : List ℕ → List ℕ
-twoBought words = getD words 10 0 ∷ getD words 8 0 ∷ getD words 9 0 ∷ getD words 16 0 ∷ getD words 14 0 ∷ getD words 15 0 ∷ []
+twoBought words = oneBought words ++ getD words 16 0 ∷ getD words 14 0 ∷ getD words 15 0 ∷ []
 
-words-there : twoBought (closeWords (bookAfter (onDay 16 0 (sold 10 1000000)) (closeAt 100000 0 ∷ auctionOffers)) 100000 0 (replicate 1152 0))
-    ≡ 2 ∷ 5 ∷ 2500 ∷ 1 ∷ 5 ∷ 5000 ∷ []
+-- X10 and X14, Settled examples: the list of the Close that follows these offers, as it ends
+abbrev pub listAfter : List Call → List ℕ
+listAfter offers = closeWords (bookAfter (begun opening .book) (toBuyIn 100000 ++ offers)) 100000 0 (replicate 1152 0)
+
+-- the same list, from the book at age = grace
+abbrev listFrom : List Call → Book → List ℕ
+listFrom offers b = closeWords (bookAfter b (closeAt 100000 0 ∷ offers)) 100000 0 (replicate 1152 0)
+
+lists-there : (twoBought (listFrom auctionOffers (onDay 16 0 (sold 10 1000000))) ≡ 2 ∷ 5 ∷ 2500 ∷ 1 ∷ 5 ∷ 5000 ∷ [])
+    × (oneBought (listFrom equalOffers (onDay 16 0 (sold 10 1000000))) ≡ 1 ∷ 10 ∷ 10000 ∷ [])
 unfolding rules
-words-there = refl
+lists-there = (refl, refl)
 
--- X10, Settled examples: what the list of the Close holds as it ends
-pub example-10-words : twoBought (closeWords (bookAfter (begun opening .book) (toBuyIn 100000 ++ auctionOffers)) 100000 0 (replicate 1152 0))
-    ≡ 2 ∷ 5 ∷ 2500 ∷ 1 ∷ 5 ∷ 5000 ∷ []
-example-10-words =
-    ap (λ (b : Book). twoBought (closeWords (bookAfter b (closeAt 100000 0 ∷ auctionOffers)) 100000 0 (replicate 1152 0))) ten-later
-    ∙ words-there
+-- what is read from the list
+read : (words : List ℕ → List ℕ) (offers : List Call) → words (listAfter offers) ≡ words (listFrom offers (onDay 16 0 (sold 10 1000000)))
+read words offers = ap (λ (b : Book). words (listFrom offers b)) ten-later
+
+pub example-10-words : twoBought (listAfter auctionOffers) ≡ 2 ∷ 5 ∷ 2500 ∷ 1 ∷ 5 ∷ 5000 ∷ []
+example-10-words = read twoBought auctionOffers ∙ lists-there .0
+
+pub example-14-words : oneBought (listAfter equalOffers) ≡ 1 ∷ 10 ∷ 10000 ∷ []
+example-14-words = read oneBought equalOffers ∙ lists-there .1
 
 -- X13, Settled examples: the closed days of 2000
 pub example-13 : targetShown 2000 ≡ 0 ∷ 6 ∷ 0 ∷ 111 ∷ 114 ∷ 121 ∷ 359 ∷ 360 ∷ 9 ∷ []
@@ -256,4 +281,4 @@ example-13 = refl
 pub settled : Every (λ r. r .computed ≡ r .settled) table
 unfolding rules
 settled =
-    also refl (also refl (also refl (also refl (also refl (also refl (also refl (also refl (also refl (also example-9 (also refl (also refl (also refl (also refl (also (example-3 .0) (also (example-3 .1) (also example-4 (also example-5 (also example-6 (also example-7 (also example-8 (also refl (also example-10 (also example-11 (also (ap₂ _++_ (example-12 .0) (example-12 .1)) (also example-13 nobody)))))))))))))))))))))))))
+    also refl (also refl (also refl (also refl (also refl (also refl (also refl (also refl (also refl (also example-9 (also refl (also refl (also refl (also refl (also refl (also (example-3 .0) (also (example-3 .1) (also example-4 (also example-5 (also example-6 (also example-7 (also example-8 (also refl (also example-10 (also example-14 (also example-11 (also (ap₂ _++_ (example-12 .0) (example-12 .1)) (also example-13 nobody)))))))))))))))))))))))))))

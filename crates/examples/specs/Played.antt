@@ -127,9 +127,13 @@ monthPlayed sales paid = shown payoutsOf (sales ++ closeAt 100000 10 ∷ []) (pa
 abbrev pub auctionOffers : List Call
 auctionOffers = offer 0 1 7 101000 ∷ offer 0 2 5 100500 ∷ offer 0 3 7 101000 ∷ []
 
--- X10, Settled examples: the offers come on the first day of the buy-in, and then that day's Close
-abbrev pub auctionPlayed : List ℕ
-auctionPlayed = shown answersOf (toBuyIn 100000) (auctionOffers ++ closeAt 100000 0 ∷ [])
+-- X14, Settled examples: there are two offers at one price, and the later one is the larger
+abbrev pub equalOffers : List Call
+equalOffers = offer 0 1 10 101000 ∷ offer 0 2 12 101000 ∷ []
+
+-- X10 and X14, Settled examples: the offers come on the first day of the buy-in, and then that day's Close
+abbrev pub auctionPlayed : List Call → List ℕ
+auctionPlayed offers = shown answersOf (toBuyIn 100000) (offers ++ closeAt 100000 0 ∷ [])
 
 -- X8, X11 and X12, Settled examples: member 3 sells 200 units to member 0 and 100 units to member 1, due on day 2
 abbrev pub twoSales : List Call

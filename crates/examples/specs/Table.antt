@@ -16,7 +16,7 @@ use Rattle.offers.specs.declared.Offer.{Offer}
 use Rattle.offers.specs.declared.Given.{Given}
 use Rattle.offers.specs.Rank.{ranked}
 use Rattle.offers.specs.BuyIn.{given}
-use Rattle.examples.specs.Played.{accepted, sale, penaltyPlayed, compensationPlayed, capPlayed, matchPlayed, deliversPlayed, twoSales, collecting, monthPlayed, auctionPlayed, reprintPlayed, monthsPlayed}
+use Rattle.examples.specs.Played.{accepted, sale, penaltyPlayed, compensationPlayed, capPlayed, matchPlayed, deliversPlayed, twoSales, collecting, monthPlayed, auctionOffers, equalOffers, auctionPlayed, reprintPlayed, monthsPlayed}
 
 -- a row of the table: the number of the example, what the definitions give, and what is settled
 pub record Row : Type 0 where
@@ -61,9 +61,10 @@ boughtFrom a q s (g ∷ gs) =
     g .offer .supplier ∷ g .quantity ∷ charge (g .quantity) (g .offer .price) (cash a q s (s + g .quantity))
     ∷ boughtFrom a q (s + g .quantity) gs
 
--- X10, Settled examples: its offers, the last one entered first
-abbrev pub entered : List Offer
-entered = offerOf 3 7 101000 ∷ offerOf 2 5 100500 ∷ offerOf 1 7 101000 ∷ []
+-- X10 and X14, Settled examples: the same of what offers give to ten units for 1,000,000 cents, none of them settled;
+-- the last offer entered stands first
+abbrev pub auctionOf : List Offer → List ℕ
+auctionOf entered = boughtFrom 1000000 10 0 (given 0 10 (ranked entered))
 
 -- E11, Enter: what the three legs of X5 and X6 answer: leg 1 without a match, a refusal by 3, and leg 2 in obligation 0
 abbrev pub oneOfThree : List ℕ
@@ -85,6 +86,10 @@ boughtInTwo =
     ++ (3 ∷ 0 ∷ 5 ∷ 2500 ∷ 2 ∷ 100500 ∷ [])
     ++ 3 ∷ 0 ∷ 5 ∷ 5000 ∷ 1 ∷ 101000 ∷ []
 
+-- C11, Close: what the Close of X14 answers: it has two lines, a penalty of 0 cents and the quantity bought in
+abbrev pub boughtInOne : List ℕ
+boughtInOne = (0 ∷ 2 ∷ []) ++ (1 ∷ 0 ∷ 10 ∷ 0 ∷ 0 ∷ 0 ∷ []) ++ 3 ∷ 0 ∷ 10 ∷ 10000 ∷ 1 ∷ 101000 ∷ []
+
 -- C11, Close: the two lines of X11, a penalty of 200 cents and one of 100 cents, behind the answer number and their count
 abbrev pub twoPenalties : List ℕ
 twoPenalties = (0 ∷ 2 ∷ []) ++ (1 ∷ 0 ∷ 200 ∷ 200 ∷ 0 ∷ 0 ∷ []) ++ 1 ∷ 1 ∷ 100 ∷ 100 ∷ 0 ∷ 0 ∷ []
@@ -99,7 +104,7 @@ paidInFull = accepted 5 ++ 0 ∷ 200 ∷ 100 ∷ 0 ∷ []
 abbrev pub targetShown : ℕ → List ℕ
 targetShown year = target year year 7 .answer ∷ target year year 7 .count ∷ targetWords year year (replicate 7 9)
 
--- X1 to X13, Settled examples: first by the definitions that each example speaks of, then as calls after an Open
+-- X1 to X14, Settled examples: first by the definitions that each example speaks of, then as calls after an Open
 abbrev pub table : List Row
 table =
     record { item = 1; computed = penalty 1000 100000 10 ∷ []; settled = 1000 ∷ [] }
@@ -126,8 +131,14 @@ table =
     }
     ∷ record {
       item = 10;
-      computed = boughtFrom 1000000 10 0 (given 0 10 (ranked entered));
+      computed = auctionOf (offerOf 3 7 101000 ∷ offerOf 2 5 100500 ∷ offerOf 1 7 101000 ∷ []);
       settled = 2 ∷ 5 ∷ 2500 ∷ 1 ∷ 5 ∷ 5000 ∷ [];
+    }
+    -- Up to edition 3 the larger offer came first: supplier 2 gave the ten units, at the same charge.
+    ∷ record {
+      item = 14;
+      computed = auctionOf (offerOf 2 12 101000 ∷ offerOf 1 10 101000 ∷ []);
+      settled = 1 ∷ 10 ∷ 10000 ∷ [];
     }
     ∷ record { item = 1; computed = penaltyPlayed 1000 100000; settled = accepted 2 ++ 0 ∷ 1 ∷ 1 ∷ 0 ∷ 1000 ∷ 1000 ∷ 0 ∷ 0 ∷ [] }
     ∷ record { item = 2; computed = penaltyPlayed 1 50000; settled = accepted 2 ++ 0 ∷ 1 ∷ 1 ∷ 0 ∷ 1 ∷ 1 ∷ 0 ∷ 0 ∷ [] }
@@ -166,8 +177,14 @@ table =
     }
     ∷ record {
       item = 10;
-      computed = auctionPlayed;
+      computed = auctionPlayed auctionOffers;
       settled = accepted 16 ++ boughtInTwo;
+    }
+    -- Up to edition 3 the line of kind 3 was 3 0 10 10000 2 101000.
+    ∷ record {
+      item = 14;
+      computed = auctionPlayed equalOffers;
+      settled = accepted 15 ++ boughtInOne;
     }
     ∷ record {
       item = 11;

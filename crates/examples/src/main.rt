@@ -209,6 +209,7 @@ fn main() {
         + played::tolerance()
         + played::deliveries()
         + played::auction()
+        + played::equal_prices()
         + played::reprint()
         + played::everybody_paid();
     io::print_decimal(STDOUT_FILENO, differ + played_differ);

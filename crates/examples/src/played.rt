@@ -142,6 +142,22 @@ pub fn auction() -> u64
         + compared(10, lines[15], 5_000)
 }
 
+// Example 14: two offers at one price, of which the Close takes the earlier.
+pub fn equal_prices() -> u64
+    ensures { λ r. ⌜ r ≡ 0 ⌝ }
+{
+    let first = in_buy_in(100_000).offer(0, 1, 10, 101_000);
+    let one = first.book;
+    let second = one.offer(0, 2, 12, 101_000);
+    let two = second.book;
+    let mut lines = [0u64; 1152];
+    let closed = two.close(100_000, 0, &mut lines);
+    compared(14, closed.count as u64, 2)
+        + compared(14, lines[10], 1)
+        + compared(14, lines[8], 10)
+        + compared(14, lines[9], 10_000)
+}
+
 // The book of the Open with two sales of member 3, after the Close of their day.
 fn closed_once() -> Book
     ensures { λ r. ⌜ r ≡ bookAfter (begun opening .book) (twoSales ++ closeAt 100000 10 ∷ []) ⌝ }

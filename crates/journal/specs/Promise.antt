@@ -134,9 +134,8 @@ abbrev pub purchaseFrom : Given → Purchase
 purchaseFrom g = record { quantity = g .quantity; supplier = g .offer .supplier; price = g .offer .price }
 
 -- C7 and C8, Close: of obligation n, of which left units are outstanding, the lines of what was bought in are those got from the
--- offers accepted since the last accepted Close, which have their turns by rising price, then larger quantity, then
--- earlier entry. In its turn each offer for n gives the smaller of its quantity and what is left, and has a line if that
--- is not 0.
+-- offers accepted since the last accepted Close, which have their turns by rising price, then earlier entry. In its
+-- turn each offer for n gives the smaller of its quantity and what is left, and has a line if that is not 0.
 pub record BoughtInTurn (earlier : List Event) (n left : ℕ) (ls : List Line) : Type 0 where
   pub turns : List Offer
   pub in-turn : InOrder (offersIn earlier) turns

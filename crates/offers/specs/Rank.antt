@@ -1,7 +1,7 @@
 -- The order of the auction, in which the offers of a day give (C7, Close).
 use Prim.Native.Nat.{ℕ, _≤_, _<_}
 use mathlib.Core.Path.{_≡_}
-use mathlib.Core.Bool.{Bool, true, false}
+use mathlib.Core.Bool.{Bool}
 use mathlib.Core.List.{List, [], _∷_, map, Perm}
 use lib.ListN.{length}
 use lib.Dec.{ltb}
@@ -9,12 +9,10 @@ use Rattle.basics.specs.Choice.{pick}
 use Rattle.basics.specs.Lists.{Sorted}
 use Rattle.offers.specs.declared.Offer.{Offer}
 
--- C7, Close: whether a later offer x overtakes an earlier offer y. It does at a lower price, and at the same price with
--- a larger quantity. Of two alike, the earlier stays ahead.
+-- C7, Close: whether a later offer x overtakes an earlier offer y. It does at a lower price only. At the same price the
+-- earlier one stays ahead, whatever the quantities are.
 unfoldable pub overtakes : Offer → Offer → Bool
-overtakes x y =
-    pick (ltb (x .price) (y .price)) true
-    (pick (ltb (y .price) (x .price)) false (ltb (y .quantity) (x .quantity)))
+overtakes x y = ltb (x .price) (y .price)
 
 -- the list with o ahead of the first element that it overtakes, or at the end if it overtakes none
 unfoldable pub insertedBy : {A : Type 0} → (A → A → Bool) → A → List A → List A
@@ -31,7 +29,7 @@ unfoldable pub rankedBy : {A : Type 0} → (A → A → Bool) → List A → Lis
 rankedBy over [] = []
 rankedBy over (o ∷ earlier) = insertedBy over o (rankedBy over earlier)
 
--- C7, Close: the offers by rising price, then larger quantity, then earlier entry
+-- C7, Close: the offers by rising price, then earlier entry
 abbrev pub ranked : List Offer → List Offer
 ranked = rankedBy overtakes
 
@@ -40,11 +38,11 @@ pub record Entry : Type 0 where
   pub offer : Offer
   pub place : ℕ
 
--- C7, Close: x is taken before y, by rising price, then larger offered quantity, then earlier entry
+-- C7, Close: x is taken before y: its price is not higher, and at the same price it was entered earlier, whatever the
+-- quantities are
 pub record TakenBefore (x y : Entry) : Type 0 where
   pub price : x .offer .price ≤ y .offer .price
-  pub quantity : x .offer .price ≡ y .offer .price → y .offer .quantity ≤ x .offer .quantity
-  pub entry : x .offer .price ≡ y .offer .price → x .offer .quantity ≡ y .offer .quantity → x .place < y .place
+  pub entry : x .offer .price ≡ y .offer .price → x .place < y .place
 
 -- the entered offers with their places; the last one entered is at the head
 unfoldable pub numbered : List Offer → List Entry

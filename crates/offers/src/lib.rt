@@ -52,12 +52,12 @@ const NOTHING_GIVEN: Given = Given {
     quantity: 0,
 };
 
-// Says whether a later offer goes ahead of an earlier one: it does at a lower price, and at the same price with a
-// larger quantity.
+// Says whether a later offer goes ahead of an earlier one: it does at a lower price only. At the same price the earlier
+// one stays ahead, however large the later one is.
 fn goes_ahead(later: Offer, earlier: Offer) -> bool
     ensures { λ r. ⌜ r ≡ overtakes later earlier ⌝ }
 {
-    later.price < earlier.price || later.price == earlier.price && earlier.quantity < later.quantity
+    later.price < earlier.price
 }
 
 // Says whether a row makes way for the offer that is carried along the rows. Once one row has made way, every row

@@ -186,7 +186,7 @@ wordsTargeted a ws = leftWith a (targetWords (a .first) (a .second) (lentTo a)) 
 
 -- the edition of the rules: the number of the latest change in docs/RULES.md
 abbrev pub edition : ℕ
-edition = 3
+edition = 4
 
 -- the answer to rules: 0 and the edition
 abbrev pub editionTold : Answer

@@ -304,7 +304,7 @@ pub fn target_days(a: Asked, words: &mut [u64]) -> Answer
 }
 
 // The edition of the rules that the book follows: the number of the latest change in docs/RULES.md.
-pub const EDITION: u64 = 3;
+pub const EDITION: u64 = 4;
 
 pub fn rules() -> Answer
     ensures { λ r. ⌜ r ≡ editionTold ⌝ }
