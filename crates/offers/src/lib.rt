@@ -68,13 +68,6 @@ fn makes_way(moved: bool, carried: Offer, row: Offer) -> bool
     moved || goes_ahead(carried, row)
 }
 
-// Returns the first offer where the test holds, and the second where it does not.
-fn either(test: bool, first: Offer, second: Offer) -> Offer
-    ensures { λ r. ⌜ r ≡ pick test first second ⌝ }
-{
-    if test { first } else { second }
-}
-
 // Returns the quantity that an offer gives to an obligation: the smaller of its own quantity and what is left, and 0 if
 // it is for another obligation.
 fn quantity_from(x: Offer, obligation: u64, left: u64) -> u32
@@ -110,9 +103,11 @@ impl Offers {
         let mut k = 0;
         while k < n {
             let row = rows[k];
-            moved = makes_way(moved, carried, row);
-            rows[k] = either(moved, carried, row);
-            carried = either(moved, row, carried);
+            if makes_way(moved, carried, row) {
+                rows[k] = carried;
+                carried = row;
+                moved = true;
+            }
             k += 1;
         }
         rows[n] = carried;

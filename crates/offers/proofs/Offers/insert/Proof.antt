@@ -3,13 +3,14 @@
 -- to come.
 use Prim.Native.Nat.{_+_, _-_}
 use mathlib.Core.List.{List}
-use mathlib.Core.Path.{_≡_, refl, ap}
+use mathlib.Core.Logic.{⊎-elim}
+use mathlib.Core.Path.{_≡_, refl, sym, ap, _∙_}
 use lib.ListN.{length}
 use borrow.Author.Needs.{needs}
 use Rattle.basics.proofs.Cases.{length-mapped}
 use Rattle.offers.specs.declared.Offer.{Offer}
 use Rattle.offers.specs.Held.{mostOffers}
-use Rattle.offers.proofs.Carrying.{Carried, carried-begins, carried-step, carried-ends}
+use Rattle.offers.proofs.Carrying.{Carried, carried-begins, carried-same, carried-moves, carried-stays, carried-ends}
 use Rattle.offers.proofs.Offers.insert.Statement.{statement}
 use Rattle.offers.proofs.Offers.insert.Tie as tie
 
@@ -31,17 +32,11 @@ array-copy-out-row c = search needs
 makes-way-requires : tie.Need-makes-way-requires Inv-loop μ-loop
 makes-way-requires c κs = search needs
 
-either-requires : tie.Need-either-requires Inv-loop μ-loop
-either-requires c κs = search needs
-
 mul-rows : tie.Need-mul-rows Inv-loop μ-loop
 mul-rows c = search needs
 
 array-set-from-rows : tie.Need-array-set-from-rows Inv-loop μ-loop
 array-set-from-rows c = search needs
-
-either-requires-2 : tie.Need-either-requires-2 Inv-loop μ-loop
-either-requires-2 c κs = search needs
 
 add-k : tie.Need-add-k Inv-loop μ-loop
 add-k c = search needs
@@ -51,16 +46,19 @@ loop-less c = search needs
 
 loop-again : tie.Need-loop-again Inv-loop μ-loop
 loop-again c =
-    let known = c .before .before .before .before .before in
+    let known = c .before .before .before .before in
     let size : length (known .before .before .args .self .rows) ≡ mostOffers = search (length-mapped, needs) in
-    let now = known .loop in
-    carried-step _ _ _ (known .before .before .pre) size (now .rows) (now .carried) (now .moved) _ (now .k) _ _ _
-    (now .inv)
-    (search needs)
-    refl
-    (c .before .before .makes-way .ensures)
-    (c .before .either .ensures)
-    (c .either2 .ensures)
+    let room = known .before .before .pre in
+    let more = c .before .before .before .loop-test .taken in
+    let test = sym (c .before .makes-way .ensures) in
+    ⊎-elim
+    (λ w.
+    carried-same (w .1) (w .2) (w .3)
+    (carried-moves _ _ _ room size _ _ _ _ (known .loop .inv) more _ refl (test ∙ w .0 .taken)))
+    (λ w.
+    carried-same (w .1) (w .2) (w .3)
+    (carried-stays _ _ _ room size _ _ _ _ (known .loop .inv) more _ refl (test ∙ w .0 .left)))
+    (c .if1 .came)
 
 mul-rows-2 : tie.Need-mul-rows-2 Inv-loop μ-loop
 mul-rows-2 c = search needs
@@ -68,8 +66,8 @@ mul-rows-2 c = search needs
 array-set-from-rows-2 : tie.Need-array-set-from-rows-2 Inv-loop μ-loop
 array-set-from-rows-2 c = search needs
 
-add-t16 : tie.Need-add-t16 Inv-loop μ-loop
-add-t16 c = search needs
+add-t18 : tie.Need-add-t18 Inv-loop μ-loop
+add-t18 c = search needs
 
 returns : tie.Need-returns Inv-loop μ-loop
 returns c =
@@ -91,14 +89,12 @@ insert-spec =
     mul-row
     array-copy-out-row
     makes-way-requires
-    either-requires
     mul-rows
     array-set-from-rows
-    either-requires-2
     add-k
     loop-less
     loop-again
     mul-rows-2
     array-set-from-rows-2
-    add-t16
+    add-t18
     returns)
