@@ -115,7 +115,7 @@ impl<'a> Auction<'a> {
     }
 
     /// Sorting by exchanges: the cheapest of the rest changes places with the first of the rest. This is
-    /// in the right order of prices, but not of entries.
+    /// in the right order of prices, but not always of entries.
     fn exchanged(&self) -> Vec<usize> {
         let mut order: Vec<usize> = (0..self.bids.len()).collect();
         for first in 0..order.len() {

@@ -644,7 +644,8 @@ impl Book {
     }
 }
 
-/// Rules, Close, as P4 has it: offers by rising price, then earlier entry, however large they are.
+/// Rules, Close, with P4: the cheaper offer comes first, and at one price the one that was entered first,
+/// however large they are.
 fn auction_order(offers: &[Offer], obligation: usize) -> Vec<&Offer> {
     let mut queue: Vec<&Offer> = offers
         .iter()
@@ -962,13 +963,13 @@ mod tests {
         assert_bought(&[(2, 101_000), (12, 101_000)], &both);
         assert_bought(&[(12, 101_000), (2, 101_000)], &[[10, 10_000, 11, 101_000]]);
         // All give all they have, so that only the order of the lines shows who came first.
-        let rising = [1, 3, 2].map(|quantity| (quantity, 101_000));
+        let lots = [1, 3, 2].map(|quantity| (quantity, 101_000));
         let lines = [
             [1, 1_000, 11, 101_000],
             [3, 3_000, 12, 101_000],
             [2, 2_000, 13, 101_000],
         ];
-        assert_bought(&rising, &lines);
+        assert_bought(&lots, &lines);
     }
 
     #[test]

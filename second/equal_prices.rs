@@ -67,7 +67,7 @@ const WANTED: [Wanted; 15] = [
 ];
 
 /// So many rising numbers, none below the low one and none above the high one. Where there is no room for
-/// them all are the low one.
+/// them, all are the low one.
 fn spread(count: u64, low: u64, high: u64) -> Vec<u64> {
     let step = high.saturating_sub(low) / count;
     (0..count).map(|number| low + number * step).collect()
@@ -129,7 +129,7 @@ impl<W: Write> Generator<W> {
         self.jam()
     }
 
-    /// So many offers for one obligation at a few prices that any way to sort them shows.
+    /// So many offers for one obligation, at a few prices, that it shows how they were sorted.
     pub fn crowd_of_prices(&mut self) -> io::Result<()> {
         (self.readings, self.noise) = (1, self.random.pick(&[0, 0, 1]));
         let quantity = self.random.between(500, 3_000);
@@ -177,7 +177,7 @@ impl<W: Write> Generator<W> {
             .map(|_| ())
     }
 
-    /// What is outstanding of an obligation; 0 of one that there is not.
+    /// What is outstanding of an obligation, and 0 if there is no such obligation.
     fn left(&self, number: usize) -> u64 {
         let obligation = self.player.book.obligations.get(number);
         obligation.map_or(0, |obligation| obligation.outstanding())
@@ -190,8 +190,8 @@ impl<W: Write> Generator<W> {
         grace_price.unwrap_or(100_000) * 108 / 100
     }
 
-    /// A price for several offers. It likes to be that of the obligation itself, so that charges are 0 or
-    /// a few cents.
+    /// A price for several offers. It is often that of the obligation itself, so that charges are 0 or a few
+    /// cents.
     fn one_price(&mut self, number: usize) -> u64 {
         let cap = self.cap(number);
         let obligation = self.player.book.obligations.get(number);
@@ -296,7 +296,7 @@ impl<W: Write> Generator<W> {
         };
         let count = self.random.between(least, least + 2);
         let others = self.random.below(8);
-        // Offers at other prices want something too.
+        // Something is left for the offers at other prices too.
         let left = if others < 4 {
             self.left(number).div_ceil(2)
         } else {
@@ -407,7 +407,7 @@ impl<W: Write> Generator<W> {
         }
     }
 
-    /// An offer like the one given, but that it is refused.
+    /// An offer like the one given, except that it is refused.
     fn refused_offer(&mut self, [number, supplier, quantity, price]: Entry) -> io::Result<()> {
         let book = &self.player.book;
         let all = book.obligations.len() as u64;

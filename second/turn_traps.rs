@@ -11,7 +11,7 @@ use crate::journal::Call;
 /// About so many calls of a day are kept, and all offers that are accepted. It bounds the memory.
 const KEPT: usize = 1_000;
 /// Library sorts often treat up to about twenty elements in a way that keeps ties in their order. With more
-/// offers than this it shows if a sort does not.
+/// than 32 offers it shows if a sort does not.
 const CROWD: usize = 32;
 
 /// The name of a situation, and whether an auction is in it.
@@ -230,7 +230,7 @@ fn is_exhausted(group: &Group) -> bool {
     pairs.any(|(one, next)| bids[one].is_used_up() && bids[next].given == 0)
 }
 
-/// A call since the last accepted Close, as far as an auction might go by it.
+/// A call since the last accepted Close that a wrong auction might go by.
 #[derive(PartialEq)]
 enum Step {
     Offered(Offer),

@@ -33,7 +33,7 @@ pub carried-begins : (from : List Offer) (n : ℕ) (o : Offer) → length from �
 unfolding settled
 carried-begins from n o s = record { within = omega arith; size = s; rest = refl; made = refl }
 
--- what holds of rows and of the carried offer holds behind a branch, where each is known by an equation
+-- `Carried` holds of equal rows, an equal offer and an equal flag. After an `if`, equations say what these are.
 pub carried-same : {from rows rows' : List Offer} {o x x' : Offer} {m m' : Bool} {n k : ℕ}
     → rows' ≡ rows → x' ≡ x → m' ≡ m → Carried from n o rows x m k → Carried from n o rows' x' m' k
 carried-same r e t c = rw (r, e, t) c
@@ -61,6 +61,7 @@ module _ (from : List Offer) (n : ℕ) (o : Offer) (room : n < mostOffers) (s : 
   -- the turn of a row y
   module _ (rows : List Offer) (x : Offer) (m : Bool) (k : ℕ) (c : Carried from n o rows x m k) (h : k < n)
       (y : Offer) (ey : y ≡ getD rows k noOffer) where
+    -- y is the first of the rows to come, which no step has changed
     first-to-come : y ≡ getD from k noOffer
     first-to-come =
         ey

@@ -29,7 +29,7 @@ not-overtaken : (x y : Offer) → y .price ≤ x .price → overtakes x y ≡ fa
 unfolding overtakes
 not-overtaken x y h = le-ltb _ _ h
 
--- The two laws of the auction's order. All that is said of ranked offers rests on them.
+-- The two laws of the auction's order. By them, offers in order stay in order.
 pub overtakes-ranks : Ranks overtakes
 overtakes-ranks = record {
   total = λ x y e. not-overtaken y x (omega (arith, overtakes-true x y e));

@@ -90,8 +90,8 @@ impl Offers {
         }
     }
 
-    // Adds an offer ahead of the first one that it overtakes. The new offer is carried along the rows to its place.
-    // From there on, each row takes the offer that was ahead of it.
+    // Adds an offer ahead of the first one that it overtakes, or behind all of them if it overtakes none. The new offer
+    // is carried along the rows to its place. From there on, each row takes the offer that was ahead of it.
     pub fn insert(self, o: Offer) -> Offers
         requires { ⌜ self .count < mostOffers ⌝ }
         ensures { λ r. ⌜ r ≡ withOffer self o ⌝ }
