@@ -48,7 +48,7 @@ use Rattle.book.specs.declared.Done.{Done}
 use Rattle.book.specs.Instructing.{doneRefused}
 use Rattle.journal.specs.Calls.{Call}
 use Rattle.journal.specs.Played.{outcome, eventOf, begun}
-use Rattle.examples.specs.Played.{opening, bookAfter, eventsOn, numbersOf, accepted, answersOf, shown, sale, closeAt, daysPass, toBuyIn, compensationPlayed, capOffers, capPlayed, matchPlayed, deliversPlayed, auctionOffers, equalOffers, auctionPlayed, collecting, everybodyPaid, monthPlayed, answerWithLines, answersWithLines, twoSales, againLent, reprintPlayed}
+use Rattle.examples.specs.Played.{opening, bookAfter, eventsOn, numbersOf, accepted, answersOf, shown, sale, closeAt, daysPass, toBuyIn, compensationPlayed, capOffers, capPlayed, matchPlayed, deliversPlayed, auctionOffers, equalOffers, auctionPlayed, collecting, everybodyPaid, monthPlayed, answerWithLines, answersWithLines, twoSales, againLent, reprintPlayed, boughtAt}
 use Rattle.examples.specs.Table.{table, boughtFrom, nthDay, dayNumber, oneOfThree, threeCash, compensatedFor, boughtInTwo, boughtInOne, twoPenalties, paidInFull, targetShown}
 
 -- the n-th clearing day is found by counting the clearing days up to it
@@ -239,14 +239,6 @@ pub example-12 : (monthPlayed twoSales (collecting 300) ≡ paidInFull) × (mont
 unfolding rules
 example-12 = (refl, refl)
 
--- X10 and X14, Settled examples: supplier, quantity and cents in the words of the second line of a Close
-abbrev pub oneBought : List ℕ → List ℕ
-oneBought words = getD words 10 0 ∷ getD words 8 0 ∷ getD words 9 0 ∷ []
-
--- X10, Settled examples: the same of the second line and the third
-abbrev pub twoBought : List ℕ → List ℕ
-twoBought words = oneBought words ++ getD words 16 0 ∷ getD words 14 0 ∷ getD words 15 0 ∷ []
-
 -- X10 and X14, Settled examples: the list of the Close that follows these offers, as it ends
 abbrev pub listAfter : List Call → List ℕ
 listAfter offers = closeWords (bookAfter (begun opening .book) (toBuyIn 100000 ++ offers)) 100000 0 (replicate 1152 0)
@@ -255,20 +247,21 @@ listAfter offers = closeWords (bookAfter (begun opening .book) (toBuyIn 100000 +
 abbrev listFrom : List Call → Book → List ℕ
 listFrom offers b = closeWords (bookAfter b (closeAt 100000 0 ∷ offers)) 100000 0 (replicate 1152 0)
 
-lists-there : (twoBought (listFrom auctionOffers (onDay 16 0 (sold 10 1000000))) ≡ 2 ∷ 5 ∷ 2500 ∷ 1 ∷ 5 ∷ 5000 ∷ [])
-    × (oneBought (listFrom equalOffers (onDay 16 0 (sold 10 1000000))) ≡ 1 ∷ 10 ∷ 10000 ∷ [])
+lines-there : (boughtAt 1 (listFrom auctionOffers (onDay 16 0 (sold 10 1000000))) ≡ 2 ∷ 5 ∷ 2500 ∷ [])
+    × (boughtAt 2 (listFrom auctionOffers (onDay 16 0 (sold 10 1000000))) ≡ 1 ∷ 5 ∷ 5000 ∷ [])
+    × (boughtAt 1 (listFrom equalOffers (onDay 16 0 (sold 10 1000000))) ≡ 1 ∷ 10 ∷ 10000 ∷ [])
 unfolding rules
-lists-there = (refl, refl)
+lines-there = (refl, refl, refl)
 
--- what is read from the list
-read : (words : List ℕ → List ℕ) (offers : List Call) → words (listAfter offers) ≡ words (listFrom offers (onDay 16 0 (sold 10 1000000)))
-read words offers = ap (λ (b : Book). words (listFrom offers b)) ten-later
+-- what stands in a line of the list
+line-read : (line : ℕ) (offers : List Call) → boughtAt line (listAfter offers) ≡ boughtAt line (listFrom offers (onDay 16 0 (sold 10 1000000)))
+line-read line offers = ap (λ (b : Book). boughtAt line (listFrom offers b)) ten-later
 
-pub example-10-words : twoBought (listAfter auctionOffers) ≡ 2 ∷ 5 ∷ 2500 ∷ 1 ∷ 5 ∷ 5000 ∷ []
-example-10-words = read twoBought auctionOffers ∙ lists-there .0
+pub example-10-lines : (boughtAt 1 (listAfter auctionOffers) ≡ 2 ∷ 5 ∷ 2500 ∷ []) × (boughtAt 2 (listAfter auctionOffers) ≡ 1 ∷ 5 ∷ 5000 ∷ [])
+example-10-lines = (line-read 1 auctionOffers ∙ lines-there .0, line-read 2 auctionOffers ∙ lines-there .1)
 
-pub example-14-words : oneBought (listAfter equalOffers) ≡ 1 ∷ 10 ∷ 10000 ∷ []
-example-14-words = read oneBought equalOffers ∙ lists-there .1
+pub example-14-line : boughtAt 1 (listAfter equalOffers) ≡ 1 ∷ 10 ∷ 10000 ∷ []
+example-14-line = line-read 1 equalOffers ∙ lines-there .2
 
 -- X13, Settled examples: the closed days of 2000
 pub example-13 : targetShown 2000 ≡ 0 ∷ 6 ∷ 0 ∷ 111 ∷ 114 ∷ 121 ∷ 359 ∷ 360 ∷ 9 ∷ []

@@ -1,5 +1,5 @@
 -- The examples as journals: an Open, calls one after another on its book, and what they answer.
-use Prim.Native.Nat.{ℕ}
+use Prim.Native.Nat.{ℕ, _+_, _*_}
 use mathlib.Core.List.{List, [], _∷_, _++_}
 use lib.ListN.{getD, take, replicate}
 use Rattle.calendar.specs.Closed.{day}
@@ -130,6 +130,10 @@ auctionOffers = offer 0 1 7 101000 ∷ offer 0 2 5 100500 ∷ offer 0 3 7 101000
 -- X14, Settled examples: there are two offers at one price, and the later one is the larger
 abbrev pub equalOffers : List Call
 equalOffers = offer 0 1 10 101000 ∷ offer 0 2 12 101000 ∷ []
+
+-- C11, Close: supplier, quantity and cents in a line of the list of a Close, of which the first has number 0
+abbrev pub boughtAt : ℕ → List ℕ → List ℕ
+boughtAt line words = getD words (6 * line + 4) 0 ∷ getD words (6 * line + 2) 0 ∷ getD words (6 * line + 3) 0 ∷ []
 
 -- X10 and X14, Settled examples: the offers come on the first day of the buy-in, and then that day's Close
 abbrev pub auctionPlayed : List Call → List ℕ

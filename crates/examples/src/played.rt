@@ -4,9 +4,12 @@ use book::Book;
 use calendar::Day;
 ghost use mathlib.Core.Path.{_≡_};
 ghost use mathlib.Core.List.{[], _∷_, _++_};
+ghost use Prim.Native.Nat.{_<_};
+ghost use lib.ListN.{length};
 ghost use Rattle.book.specs.Book.{Valid};
+ghost use Rattle.journal.specs.Calls.{offer};
 ghost use Rattle.journal.specs.Played.{begun};
-ghost use Rattle.examples.specs.Played.{opening, bookAfter, sale, closeAt, daysPass, toBuyIn, accepted, matchPlayed, twoSales};
+ghost use Rattle.examples.specs.Played.{opening, bookAfter, sale, closeAt, daysPass, toBuyIn, accepted, matchPlayed, twoSales, boughtAt};
 ghost use Rattle.examples.specs.Table.{oneOfThree};
 
 // The book of an Open on day 2, without closed days and by terms 1.
@@ -121,41 +124,50 @@ pub fn deliveries() -> u64
     compared(7, first.cash, 333) + compared(7, second.cash, 333) + compared(7, third.cash, 334)
 }
 
+// A book with one more offer for obligation 0.
+fn with_offer(book: Book, supplier: u64, quantity: u64, price: u64) -> Book
+    requires { ⌜ Valid book ⌝ }
+    ensures { λ r. ⌜ r ≡ bookAfter book (offer 0 supplier quantity price ∷ []) ⌝ }
+    ensures { λ r. ⌜ Valid r ⌝ }
+{
+    let offered = book.offer(0, supplier, quantity, price);
+    offered.book
+}
+
+// Compares supplier, quantity and cents in a line of a Close's list with the settled ones. The first line has number 0.
+fn bought(item: u64, lines: &[u64], line: usize, supplier: u64, quantity: u64, cents: u64) -> u64
+    requires { ⌜ (line < 192) × (length (now lines) ≡ 1152) × (boughtAt line (now lines) ≡ supplier ∷ quantity ∷ cents ∷ []) ⌝ }
+    ensures { λ r. ⌜ r ≡ 0 ⌝ }
+{
+    let at = 6 * line;
+    compared(item, lines[at + 4], supplier)
+        + compared(item, lines[at + 2], quantity)
+        + compared(item, lines[at + 3], cents)
+}
+
 // Example 10: three offers, and the lines of the Close of their day.
 pub fn auction() -> u64
     ensures { λ r. ⌜ r ≡ 0 ⌝ }
 {
-    let first = in_buy_in(100_000).offer(0, 1, 7, 101_000);
-    let one = first.book;
-    let second = one.offer(0, 2, 5, 100_500);
-    let two = second.book;
-    let third = two.offer(0, 3, 7, 101_000);
-    let three = third.book;
+    let first = with_offer(in_buy_in(100_000), 1, 7, 101_000);
+    let second = with_offer(first, 2, 5, 100_500);
+    let third = with_offer(second, 3, 7, 101_000);
     let mut lines = [0u64; 1152];
-    let closed = three.close(100_000, 0, &mut lines);
+    let closed = third.close(100_000, 0, &mut lines);
     compared(10, closed.count as u64, 3)
-        + compared(10, lines[10], 2)
-        + compared(10, lines[8], 5)
-        + compared(10, lines[9], 2_500)
-        + compared(10, lines[16], 1)
-        + compared(10, lines[14], 5)
-        + compared(10, lines[15], 5_000)
+        + bought(10, &lines, 1, 2, 5, 2_500)
+        + bought(10, &lines, 2, 1, 5, 5_000)
 }
 
 // Example 14: two offers at one price, of which the Close takes the earlier.
 pub fn equal_prices() -> u64
     ensures { λ r. ⌜ r ≡ 0 ⌝ }
 {
-    let first = in_buy_in(100_000).offer(0, 1, 10, 101_000);
-    let one = first.book;
-    let second = one.offer(0, 2, 12, 101_000);
-    let two = second.book;
+    let first = with_offer(in_buy_in(100_000), 1, 10, 101_000);
+    let second = with_offer(first, 2, 12, 101_000);
     let mut lines = [0u64; 1152];
-    let closed = two.close(100_000, 0, &mut lines);
-    compared(14, closed.count as u64, 2)
-        + compared(14, lines[10], 1)
-        + compared(14, lines[8], 10)
-        + compared(14, lines[9], 10_000)
+    let closed = second.close(100_000, 0, &mut lines);
+    compared(14, closed.count as u64, 2) + bought(14, &lines, 1, 1, 10, 10_000)
 }
 
 // The book of the Open with two sales of member 3, after the Close of their day.

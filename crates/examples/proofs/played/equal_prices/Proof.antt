@@ -1,38 +1,48 @@
 -- `equal_prices` meets its contract.
 use native.Mathlib.Omega.{arith}
 use Prim.Native.Nat.{ℕ}
-use mathlib.Core.Path.{ap, _∙_}
-use mathlib.Core.List.{List}
+use mathlib.Core.Path.{_≡_, ap, _∙_}
+use mathlib.Core.List.{List, [], _∷_, _++_}
 use lib.ListN.{getD, replicate}
 use Rattle.closing.specs.Lines.{flat}
 use Rattle.book.specs.declared.Book.{Book}
-use Rattle.book.specs.declared.Done.{Done}
 use Rattle.book.specs.declared.Closed.{Closed}
-use Rattle.book.specs.Buying.{offer}
 use Rattle.book.specs.Close.{close, closeWords}
+use Rattle.basics.proofs.Cases.{length-mapped}
+use Rattle.journal.specs.Calls.{offer}
+use Rattle.journal.specs.Played.{begun}
+use Rattle.examples.specs.Played.{opening, bookAfter, toBuyIn, equalOffers, boughtAt}
 use Rattle.examples.proofs.Same.{none-differs}
-use Rattle.examples.proofs.Settled.{oneBought, example-14, example-14-words}
+use Rattle.examples.proofs.Settled.{example-14, example-14-line}
 use borrow.Author.Needs.{needs}
 use Rattle.examples.proofs.played.equal_prices.Statement.{statement}
 use Rattle.examples.proofs.played.equal_prices.Tie as tie
 
+-- the book that the Close takes
+offered : (c : tie.After-close) → c .before .before .with-offer2 .result ≡ bookAfter (begun opening .book) (toBuyIn 100000 ++ equalOffers)
+offered c =
+    let second = c .before .before in
+    let first = second .before in
+    second .with-offer2 .ensures .0
+    ∙ ap (λ (b : Book). bookAfter b (offer 0 2 12 101000 ∷ []))
+    (first .with-offer .ensures .0
+    ∙ ap (λ (b : Book). bookAfter b (offer 0 1 10 101000 ∷ [])) (first .before .in-buy-in .ensures .0))
+
+bought-requires : tie.Need-bought-requires
+bought-requires c κs =
+    let closed = c .before .before .before in
+    let list = closed .close .ensures .1 .0 ∙ ap (λ (b : Book). closeWords b 100000 0 (replicate 1152 0)) (offered closed) in
+    (omega arith, search (length-mapped, needs), ap (boughtAt 1) list ∙ example-14-line)
+
 returns : tie.Need-returns
 unfolding flat
 returns c =
-    let compared = c .before .before .before in
-    let closed = compared .before .before in
-    let offered2 = closed .before .before .before in
-    let offered = offered2 .before .before in
-    let one = offered .offer .ensures .0 ∙ ap (λ (b : Book). offer b 0 1 10 101000) (offered .before .in-buy-in .ensures .0) in
-    let two = offered2 .offer2 .ensures .0 ∙ ap (λ (d : Done). offer (d .book) 0 2 12 101000) one in
-    let count = closed .close .ensures .0 ∙ ap (λ (d : Done). close (d .book) 100000 0 1152) two in
-    let words = ap oneBought (closed .close .ensures .1 .0 ∙ ap (λ (d : Done). closeWords (d .book) 100000 0 (replicate 1152 0)) two) ∙ example-14-words in
+    let closed = c .before .before .before .before in
+    let count = closed .close .ensures .0 ∙ ap (λ (b : Book). close b 100000 0 1152) (offered closed) in
     omega (
       arith,
-      none-differs (ap (λ (k : Closed). k .count) count ∙ ap (λ (l : List ℕ). getD l 16 0) example-14) (compared .compared .ensures .0),
-      none-differs (ap (λ (l : List ℕ). getD l 0 0) words) (c .before .before .compared2 .ensures .0),
-      none-differs (ap (λ (l : List ℕ). getD l 1 0) words) (c .before .compared3 .ensures .0),
-      none-differs (ap (λ (l : List ℕ). getD l 2 0) words) (c .compared4 .ensures .0),
+      none-differs (ap (λ (k : Closed). k .count) count ∙ ap (λ (l : List ℕ). getD l 16 0) example-14) (c .before .before .compared .ensures .0),
+      c .bought .ensures,
     )
 
 pub equal-prices-spec : {M : Type 1} → statement M
@@ -40,11 +50,8 @@ equal-prices-spec =
     tie.close
     (tie.spec
     (λ c κs. search needs)
-    (λ c κs. search needs)
-    (λ c κs. search needs)
+    (λ c κs. search needs) (λ c κs. search needs)
     (λ c. search needs) (λ c κs. search needs)
     (λ c κs. search needs)
-    (λ c. search needs) (λ c κs. search needs) (λ c. search needs)
-    (λ c. search needs) (λ c κs. search needs) (λ c. search needs)
-    (λ c. search needs) (λ c κs. search needs) (λ c. search needs)
+    (λ c. search needs) bought-requires (λ c. search needs)
     returns)
