@@ -2,7 +2,7 @@
 use Prim.Native.Nat.{ℕ, _+_, _-_, _*_, _/_, _≤_, _<_}
 use native.Mathlib.Nat.{mul-le-mul, le-div-iff-mul-le, div-add-mod', mod-lt}
 use native.Mathlib.Omega.{arith}
-use Rattle.amounts.specs.Amounts.{mostQuantity, mostClosePrice, mostRate, value, penalty}
+use Rattle.amounts.specs.Amounts.{mostQuantity, mostClosePrice, mostRate, mostPenalty, value, penalty}
 use Rattle.amounts.specs.Quotients.{rounded}
 
 -- the product of two numbers is at most the product of their bounds
@@ -23,8 +23,8 @@ pub value-most : {q price : ℕ} (most : ℕ) → q ≤ mostQuantity → price �
 unfolding value
 value-most most h k = mul-le-mul h k
 
--- a day's penalty is at most 1,500,000 cents
-pub penalty-most : (q price rate : ℕ) → q ≤ mostQuantity → price ≤ mostClosePrice → rate ≤ mostRate → penalty q price rate ≤ 1500000
+-- no penalty is above the largest
+pub penalty-most : (q price rate : ℕ) → q ≤ mostQuantity → price ≤ mostClosePrice → rate ≤ mostRate → penalty q price rate ≤ mostPenalty
 unfolding penalty rounded
 penalty-most q price rate h k l =
     let m : value q price * rate ≤ 1500000000000 = mul-le-mul (value-most mostClosePrice h k) l in

@@ -27,6 +27,10 @@ mostOfferPrice = 200000
 abbrev pub mostRate : ℕ
 mostRate = 100
 
+-- C4, Close: the largest penalty, by the largest quantity, price and rate, in cents
+abbrev pub mostPenalty : ℕ
+mostPenalty = 1500000
+
 -- D11, Days and units: q units at price p are worth q × p cents
 unfoldable pub value : ℕ → ℕ → ℕ
 value q p = q * p

@@ -18,17 +18,19 @@ use Rattle.calendar.specs.declared.NextDay.the-variants.{At, Never}
 use Rattle.calendar.specs.Days.{ageAt}
 use Rattle.calendar.proofs.Next.{FirstAfter, next-at}
 use Rattle.calendar.proofs.Ages.{age-next, age-to-come}
-use Rattle.amounts.specs.Amounts.{mostClosePrice, mostRate}
+use Rattle.amounts.specs.Amounts.{mostPenalty}
 use Rattle.ledger.specs.declared.Deal.{Deal}
 use Rattle.ledger.specs.declared.Obligation.{Obligation}
 use Rattle.ledger.specs.declared.Ledger.{Ledger}
-use Rattle.ledger.specs.Obligations.{isDue}
+use Rattle.ledger.specs.Obligations.{ageBy, lastOf, isDue}
+use Rattle.ledger.specs.Lines.{wordsInLine, fewestWords, mostLines}
 use Rattle.ledger.specs.Ledger.{obligationAt, ValidLedger}
 use Rattle.ledger.proofs.Valid.{no-offers-valid}
 use Rattle.offers.specs.Held.{listed as listedOffers}
 use Rattle.closing.specs.declared.DayEnd.{DayEnd}
-use Rattle.closing.specs.Close.{closedAt, closedLedger}
-use Rattle.closing.specs.Lines.{mostLines, written, linesRead, SoundLine}
+use Rattle.closing.specs.declared.Line.{Line}
+use Rattle.closing.specs.Close.{closedAt, closeLines, closedLedger}
+use Rattle.closing.specs.Lines.{written, linesRead, SoundLine}
 use Rattle.closing.specs.Asked.{Closable, ClosedAs}
 use Rattle.closing.proofs.Parts.{Goes, closed-goes, last-none}
 use Rattle.closing.proofs.Together.{rows-length, rows-closed, lines-most}
@@ -38,19 +40,16 @@ use Rattle.closing.proofs.Sizes.{lines-sound}
 use Rattle.reprint.specs.declared.LastClose.{LastClose}
 use Rattle.reprint.specs.Kept.{keptFrom, Keepable}
 use Rattle.reprint.proofs.Keeping.{kept-valid}
-use Rattle.refusals.specs.Calls.{closeRefusals, closeRefusalsIn, fewestWords}
-use Rattle.refusals.proofs.Ending.{Given, close-given, close-at, again-given}
+use Rattle.refusals.specs.Calls.{closeRefusals, closeRefusalsIn}
+use Rattle.refusals.proofs.Ending.{close-given, close-at, again-given}
 use Rattle.book.specs.declared.Book.{Book}
 use Rattle.book.specs.declared.Closed.{Closed}
 use Rattle.book.specs.Book.{withDay, withLast, closedOf, todayOf, ageOf, Valid}
-use Rattle.book.specs.Close.{nextDay, dayEnd, linesOf, closedDay, closedBook, closeRefused, closeNumber, closeDone, closeBy, close, closeWords}
+use Rattle.book.specs.Close.{nextDay, dayEnd, closedDay, closedBook, closeRefused, closeAnswer, closeDone, closeBy, close, closeWords}
 use Rattle.book.specs.Again.{again}
-use Rattle.book.proofs.Outcomes.{close-case, again-case}
+use Rattle.book.proofs.Outcomes.{Ends, close-ends, close-case, again-case}
 
-module _ (b : Book) (v : Valid b) (price rate : ℕ) (p : price ≤ mostClosePrice) (r : rate ≤ mostRate) where
-  abbrev d : DayEnd
-  d = dayEnd b price rate
-
+module _ (b : Book) (v : Valid b) (d : DayEnd) (e : Ends b d) where
   abbrev l : Ledger
   l = b .ledger
 
@@ -62,9 +61,7 @@ module _ (b : Book) (v : Valid b) (price rate : ℕ) (p : price ≤ mostClosePri
   pub closable : (ws : List ℕ) → fewestWords ≤ length ws → Closable d l ws
   closable ws long = record {
     valid = v .ledger;
-    setup = v .setup;
-    price-most = p;
-    rate-most = r;
+    end = e .valid;
     accounts-near = λ m. omega (arith, v .accounts-near m, v .day .today-most);
     long = long;
   }
@@ -73,10 +70,10 @@ module _ (b : Book) (v : Valid b) (price rate : ℕ) (p : price ≤ mostClosePri
   after-closed n h = rows-closed d (l .obligations) (listedOffers (l .offers)) (l .count) n h (omega (arith, v .ledger .size, v .ledger .few))
 
   pub after-goes : (n : ℕ) → n < l .count → Goes (obligationAt l n) (after n)
-  after-goes n h = rw (after-closed n h) (closed-goes d (listedOffers (l .offers)) n (obligationAt l n) p (v .ledger .sound n h))
+  after-goes n h = rw (after-closed n h) (closed-goes d (listedOffers (l .offers)) n (obligationAt l n) (e .valid .price-most) (v .ledger .sound n h))
 
-  charged : Charged (l .accounts) (closedLedger d l .accounts) (1500000 * l .count)
-  charged = charged-up-to (todayOf b) price rate l (v .ledger) p r (l .count) (omega arith)
+  charged : Charged (l .accounts) (closedLedger d l .accounts) (mostPenalty * l .count)
+  charged = charged-up-to d l (e .valid) (v .ledger) (l .count) (omega arith)
 
   closed-ledger-valid : ValidLedger (closedLedger d l)
   closed-ledger-valid = record {
@@ -88,8 +85,33 @@ module _ (b : Book) (v : Valid b) (price rate : ℕ) (p : price ≤ mostClosePri
   }
 
   -- there are no more lines than the book can keep
-  pub lines-few : length (linesOf b price rate) ≤ mostLines
-  lines-few = lines-most d (l .obligations) (l .offers) (v .setup .terms) (v .ledger .offers .few) (l .count) (v .ledger .few)
+  pub lines-few : length (closeLines d l) ≤ mostLines
+  lines-few = lines-most d (l .obligations) (l .offers) (e .valid .setup .terms) (v .ledger .offers .few) (l .count) (v .ledger .few)
+
+  -- the age and the last day of an obligation, as the Close has them
+  pub ends-age : (o : Obligation) → ageBy (d .setup) (d .today) o ≡ ageOf b o
+  unfolding ageOf
+  ends-age o = rw (e .setup, e .today)
+
+  pub ends-last : (o : Obligation) → lastOf (d .setup .terms) o ≡ lastOf (b .setup .terms) o
+  ends-last o = rw (e .setup)
+
+  -- an obligation whose day has come and of which something is outstanding is due
+  pub ends-due : (o : Obligation) → o .deal .day .0 ≤ todayOf b .0 → 0 < o .parts .outstanding → isDue (d .today) o ≡ true
+  unfolding isDue
+  ends-due o h z = rw (e .today, le-leb (o .deal .day .0) (todayOf b .0) h, lt-ltb 0 (o .parts .outstanding) z)
+
+  -- after the Close of its last day nothing of an obligation is outstanding
+  pub after-last : (n : ℕ) → n < l .count → obligationAt l n .deal .day .0 ≤ todayOf b .0 → ageOf b (obligationAt l n) ≡ lastOf (b .setup .terms) (obligationAt l n) →
+      after n .parts .outstanding ≡ 0
+  after-last n h reached old =
+      let o = obligationAt l n in
+      ⊎-elim
+      (λ (z : 0 < o .parts .outstanding).
+      ap (λ (x : Obligation). x .parts .outstanding) (after-closed n h)
+      ∙ last-none d (listedOffers (l .offers)) n o (ends-due o reached z) (ends-age o ∙ old ∙ sym (ends-last o)))
+      (λ (z : o .parts .outstanding ≤ 0). omega (arith, after-goes n h .later .less))
+      (below-or-not 0 (o .parts .outstanding))
 
   module _ (next : Day) (q : nextDay b ≡ At next) where
     abbrev first : FirstAfter (closedOf b) (todayOf b .0) (next .0)
@@ -99,38 +121,35 @@ module _ (b : Book) (v : Valid b) (price rate : ℕ) (p : price ≤ mostClosePri
     abbrev older : Obligation → ℕ
     older o = ageAt (closedOf b) (o .deal .day) next .0
 
-    -- what is outstanding after the Close has not come to the last day
-    still-young : (n : ℕ) → n < l .count → 1 ≤ after n .parts .outstanding → older (after n) ≤ b .setup .terms .last .0
-    unfolding ageOf isDue
+    -- what is outstanding after the Close has not come beyond its last day
+    still-young : (n : ℕ) → n < l .count → 1 ≤ after n .parts .outstanding → older (after n) ≤ lastOf (b .setup .terms) (after n)
+    unfolding ageOf
     still-young n h some =
         let o = obligationAt l n in
-        let g = after-goes n h in
-        let young = v .timely n h .young (omega (arith, g .later .less)) in
-        let same : older (after n) ≡ older o = ap (λ (d : Deal). ageAt (closedOf b) (d .day) next .0) (g .later .deal) in
+        let g = after-goes n h .later in
+        let young = v .timely n h .young (omega (arith, g .less)) in
+        let same : older (after n) ≡ older o = ap (λ (d : Deal). ageAt (closedOf b) (d .day) next .0) (g .deal) in
         ⊎-elim
         (λ (z : todayOf b .0 < o .deal .day .0). omega (arith, same, age-to-come (closedOf b) (o .deal .day) (todayOf b) next (v .timely n h .clears) z q))
         (λ (z : o .deal .day .0 ≤ todayOf b .0).
-        let due : isDue (todayOf b) o ≡ true = rw (le-leb (o .deal .day .0) (todayOf b .0) z, lt-ltb 0 (o .parts .outstanding) (omega (arith, g .later .less))) in
         let one = age-next (closedOf b) (o .deal .day) (todayOf b) next z q in
-        omega (arith, same, one, below (ageOf b o) (b .setup .terms .last .0) young (λ e. gone n h due e some)))
+        omega (arith, same, one, g .last (b .setup .terms), below (ageOf b o) (lastOf (b .setup .terms) o) young (λ old. gone (after-last n h z old))))
         (below-or-not (todayOf b .0) (o .deal .day .0))
       where
         below : (a m : ℕ) → a ≤ m → (a ≡ m → ⊥) → a < m
         below a m x y = omega arith
 
-        gone : (n : ℕ) → n < l .count → isDue (todayOf b) (obligationAt l n) ≡ true → ageOf b (obligationAt l n) ≡ b .setup .terms .last .0 → 1 ≤ after n .parts .outstanding → ⊥
-        gone n h due e some =
-            let z = ap (λ (o : Obligation). o .parts .outstanding) (after-closed n h) ∙ last-none d (listedOffers (l .offers)) n (obligationAt l n) due e in
-            omega arith
+        gone : after n .parts .outstanding ≡ 0 → ⊥
+        gone z = omega arith
 
-    pub closed-valid : Valid (closedBook b price rate next)
+    pub closed-valid : Valid (closedBook b d next)
     unfolding ageOf
     closed-valid = record {
       setup = v .setup;
       day = record { today-clears = first .clears; today-most = next-at (closedOf b) (todayOf b) next q .1 };
       legs = v .legs;
       ledger = closed-ledger-valid;
-      last = kept-valid (linesOf b price rate) lines-few;
+      last = kept-valid (closeLines d l) lines-few;
       room = v .room;
       timely = λ n h. record { clears = rw (after-goes n h .later .deal) (v .timely n h .clears); young = still-young n h };
       accounts-near = λ m. omega (arith, charged .near m, v .accounts-near m, v .ledger .few, first .later);
@@ -138,7 +157,7 @@ module _ (b : Book) (v : Valid b) (price rate : ℕ) (p : price ≤ mostClosePri
 
 -- ---- the answer of a Close and the words of its list
 -- refused by n: the same book and the same words
-pub refused-end : (b : Book) → Valid b → (price rate n : ℕ) (ws : List ℕ) → closeNumber b price rate (length ws) ≡ n → (n ≡ 0 → ⊥) →
+pub refused-end : (b : Book) → Valid b → (price rate n : ℕ) (ws : List ℕ) → closeAnswer b price rate (length ws) ≡ n → (n ≡ 0 → ⊥) →
     (closeRefused b n ≡ close b price rate (length ws)) × ((ws ≡ closeWords b price rate ws) × Valid b)
 unfolding close closeBy closeWords
 refused-end b v price rate n ws e z =
@@ -150,31 +169,37 @@ refused-end b v price rate n ws e z =
 
 -- done, with the ledger that the Close of the book's ledger gave, and with the lines that were then read from the list
 module _ (b : Book) (v : Valid b) (price rate : ℕ) (ws : List ℕ) (e : answer (closeRefusalsIn price rate (length ws)) ≡ 0) (next : Day) (q : nextDay b ≡ At next) where
+  abbrev d : DayEnd
+  d = dayEnd b price rate
+
+  abbrev ends : Ends b d
+  ends = close-ends b v price rate (length ws) e
+
+  abbrev lines : List Line
+  lines = closeLines d (b .ledger)
+
   abbrev ended : Ledger → LastClose → Book
   ended l k = withLast k (withDay (closedDay next) l b)
 
-  given : Given price rate (length ws)
-  given = close-given price rate (length ws) e
-
-  pub done-closable : Closable (dayEnd b price rate) (b .ledger) ws
-  done-closable = closable b v price rate (given .price-most) (given .rate-most) ws (given .long)
+  pub done-closable : Closable d (b .ledger) ws
+  done-closable = closable b v d ends ws (close-given price rate (length ws) e .long)
 
   -- the Close is done, with next as its next clearing day
-  close-done : closeDone b price rate next ≡ close b price rate (length ws)
+  close-done : closeDone b d next ≡ close b price rate (length ws)
   unfolding close closeBy
-  close-done = rw q (done-by (closeRefusals price rate (length ws) (At next)) (closeDone b price rate next) (closeRefused b) (close-at price rate (length ws) (At next) next refl e))
+  close-done = rw q (done-by (closeRefusals price rate (length ws) (At next)) (closeDone b d next) (closeRefused b) (close-at price rate (length ws) (At next) next refl e))
 
-  module _ (l : Ledger) (count : ℕ) (ws' : List ℕ) (c : ClosedAs (closedLedger (dayEnd b price rate) (b .ledger)) (linesOf b price rate) l count ws ws') where
+  module _ (l : Ledger) (count : ℕ) (ws' : List ℕ) (c : ClosedAs (closedLedger d (b .ledger)) lines l count ws ws') where
     -- the lines of the Close are read from its list
-    lines-told : linesRead count ws' ≡ linesOf b price rate
-    lines-told = (λ i. linesRead (c .counted i) (c .words i)) ∙ lines-back (linesOf b price rate) ws
+    lines-told : linesRead count ws' ≡ lines
+    lines-told = (λ i. linesRead (c .counted i) (c .words i)) ∙ lines-back lines ws
 
     -- what keeping them asks
     pub done-keepable : Keepable count ws'
     done-keepable = record {
-      few = omega (arith, c .counted, lines-few b v price rate (given .price-most) (given .rate-most));
-      long = omega (arith, c .counted, ap (λ (us : List ℕ). length us) (c .words), written-fits (linesOf b price rate) ws);
-      sound = subst⁻¹ (Every SoundLine) lines-told (lines-sound (dayEnd b price rate) (b .ledger) ws done-closable);
+      few = omega (arith, c .counted, lines-few b v d ends);
+      long = omega (arith, c .counted, ap (λ (us : List ℕ). length us) (c .words), written-fits lines ws);
+      sound = subst⁻¹ (Every SoundLine) lines-told (lines-sound d (b .ledger) ws done-closable);
     }
 
     pub done-end : (k : LastClose) → k ≡ keptFrom (linesRead count ws') →
@@ -182,29 +207,26 @@ module _ (b : Book) (v : Valid b) (price rate : ℕ) (ws : List ℕ) (e : answer
     unfolding closeWords
     done-end k f =
         let kept = f ∙ ap keptFrom lines-told in
-        let book : ended l k ≡ closedBook b price rate next = λ i. ended (c .result i) (kept i) in
-        let same : _≡_ {A = Closed} (record { answer = 0; count = count; book = ended l k }) (closeDone b price rate next) =
+        let book : ended l k ≡ closedBook b d next = λ i. ended (c .result i) (kept i) in
+        let same : _≡_ {A = Closed} (record { answer = 0; count = count; book = ended l k }) (closeDone b d next) =
         λ i. record { answer = 0; count = c .counted i; book = book i } in (
           same ∙ close-done,
           (
-            c .words ∙ done-by (closeRefusals price rate (length ws) (nextDay b)) (written (linesOf b price rate) ws) (λ k. ws) (close-at price rate (length ws) (nextDay b) next q e),
-            subst⁻¹ Valid book (closed-valid b v price rate (given .price-most) (given .rate-most) next q),
+            c .words ∙ done-by (closeRefusals price rate (length ws) (nextDay b)) (written lines ws) (λ k. ws) (close-at price rate (length ws) (nextDay b) next q e),
+            subst⁻¹ Valid book (closed-valid b v d ends next q),
           ),
         )
 
 -- a Close keeps the book valid
 pub close-valid : (b : Book) → Valid b → (price rate : ℕ) (ws : List ℕ) → Valid (close b price rate (length ws) .book)
 close-valid b v price rate ws =
-    close-case b (λ (x : Closed) (us : List ℕ). Valid (x .book)) price rate ws (λ k z. v)
-    (λ next q e. let g = close-given price rate (length ws) e in closed-valid b v price rate (g .price-most) (g .rate-most) next q)
+    close-case b v (λ (x : Closed) (us : List ℕ). Valid (x .book)) price rate ws (λ k z. v) (λ d e s next q long. closed-valid b v d e next q)
 
 -- the lines fit the list
-pub close-fits : (b : Book) (price rate : ℕ) (ws : List ℕ) → Valid b → 6 * close b price rate (length ws) .count ≤ length ws
+pub close-fits : (b : Book) (price rate : ℕ) (ws : List ℕ) → Valid b → wordsInLine * close b price rate (length ws) .count ≤ length ws
 close-fits b price rate ws v =
-    close-case b (λ (x : Closed) (us : List ℕ). 6 * x .count ≤ length ws) price rate ws (λ k z. omega arith)
-    (λ next q e.
-    let g = close-given price rate (length ws) e in
-    omega (arith, lines-few b v price rate (g .price-most) (g .rate-most), g .long))
+    close-case b v (λ (x : Closed) (us : List ℕ). wordsInLine * x .count ≤ length ws) price rate ws (λ k z. omega arith)
+    (λ d e s next q long. omega (arith, lines-few b v d e))
 
 -- ---- Again
 -- an Again hands back the book as it was, so it keeps it valid
@@ -212,7 +234,7 @@ pub again-valid : (b : Book) → Valid b → (ws : List ℕ) → Valid (again b 
 again-valid b v ws = again-case b (λ (x : Closed) (us : List ℕ). Valid (x .book)) ws (λ k z. v) (λ e. v)
 
 -- the lines fit the list
-pub again-fits : (b : Book) (ws : List ℕ) → Valid b → 6 * again b (length ws) .count ≤ length ws
+pub again-fits : (b : Book) (ws : List ℕ) → Valid b → wordsInLine * again b (length ws) .count ≤ length ws
 again-fits b ws v =
-    again-case b (λ (x : Closed) (us : List ℕ). 6 * x .count ≤ length ws) ws (λ k z. omega arith)
+    again-case b (λ (x : Closed) (us : List ℕ). wordsInLine * x .count ≤ length ws) ws (λ k z. omega arith)
     (λ e. omega (arith, v .last .few, again-given _ _ e .0))

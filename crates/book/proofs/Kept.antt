@@ -28,7 +28,7 @@ use Rattle.ledger.specs.declared.Part.the-variants.{Delivered}
 use Rattle.ledger.specs.declared.Deal.{Deal}
 use Rattle.ledger.specs.declared.Obligation.{Obligation}
 use Rattle.ledger.specs.declared.Ledger.{Ledger}
-use Rattle.ledger.specs.Obligations.{noObligation, wishing, SoundDeal, Sound, delivering as deliveringFrom}
+use Rattle.ledger.specs.Obligations.{noObligation, wishing, SoundDeal, Sound, moving}
 use Rattle.ledger.specs.Ledger.{obligationAt, withObligation, withNew, ValidLedger}
 use Rattle.ledger.proofs.Keeping.{new-sound, moving-sound, wishing-sound, Later, moving-later, wishing-later}
 use Rattle.book.specs.declared.Book.{Book}
@@ -68,7 +68,7 @@ module _ (b : Book) (v : Valid b) where
   unfolding ageOf
   later-timely o r g t =
       let same = ap (λ (d : Deal). ageAt (closedOf b) (d .day) (todayOf b) .0) (g .deal) in
-      record { clears = rw (g .deal) (t .clears); young = λ q. omega (arith, same, t .young (omega (arith, g .less))) }
+      record { clears = rw (g .deal) (t .clears); young = λ q. omega (arith, same, g .last (b .setup .terms), t .young (omega (arith, g .less))) }
 
   -- an obligation changed to what it is at a later time
   changed-valid : (n : ℕ) (o : Obligation) → n < b .ledger .count → Sound o → Later (obligationAt (b .ledger) n) o →
@@ -98,7 +98,7 @@ module _ (b : Book) (v : Valid b) where
       deliver-case b (λ r. Valid (r .book)) n q (λ k z. v) (λ h e.
       let o = obligationAt (b .ledger) n in
       let t = ltb-false (o .parts .outstanding) q (passed 15 _ _ e refl .0) in
-      changed-valid n (deliveringFrom q o) h (moving-sound Delivered o q (record { sound = v .ledger .sound n h; enough = t })) (moving-later Delivered o q))
+      changed-valid n (moving Delivered q o) h (moving-sound Delivered o q (record { sound = v .ledger .sound n h; enough = t })) (moving-later Delivered o q))
 
   -- ---- Offer
   pub offer-valid : (n supplier q price : ℕ) → Valid (offer b n supplier q price .book)

@@ -1,6 +1,6 @@
 -- What holds of a refused call and of one that is done holds of its outcome. The calls here go by the answer of a fetch or
 -- by the next clearing day, and one that is done has found what it asked for.
-use Prim.Native.Nat.{ℕ, _<_}
+use Prim.Native.Nat.{ℕ, _≤_, _<_}
 use mathlib.Core.Path.{_≡_, refl, sym}
 use mathlib.Core.Bool.{false≢true}
 use mathlib.Core.List.{List}
@@ -13,23 +13,42 @@ use Rattle.calendar.specs.declared.NextDay.the-variants.{At, Never}
 use Rattle.instructions.specs.declared.FetchedLeg.the-variants.{Found}
 use Rattle.instructions.specs.Legs.{legAt}
 use Rattle.instructions.proofs.Fetching.{fetched-leg-case}
+use Rattle.ledger.specs.Lines.{fewestWords}
 use Rattle.ledger.specs.Ledger.{obligationAt}
+use Rattle.closing.specs.declared.DayEnd.{DayEnd}
 use Rattle.closing.specs.Lines.{written}
+use Rattle.closing.specs.Close.{closeLines}
+use Rattle.closing.specs.Asked.{ValidEnd}
 use Rattle.reprint.specs.Kept.{linesKept}
 use Rattle.refusals.specs.Calls.{cancelRefusalsIn, cancelRefusalsOf, deliverRefusalsIn, deliverRefusalsOf, offerRefusalsIn, closeRefusalsIn, closeRefusals}
 use Rattle.refusals.proofs.Named.{fetch-case}
-use Rattle.refusals.proofs.Ending.{close-passed, never-refused}
+use Rattle.refusals.proofs.Ending.{close-given, close-passed, never-refused}
 use Rattle.book.specs.declared.Book.{Book}
 use Rattle.book.specs.declared.Done.{Done}
 use Rattle.book.specs.declared.Cancelled.{Cancelled}
 use Rattle.book.specs.declared.Delivered.{Delivered}
 use Rattle.book.specs.declared.Closed.{Closed}
-use Rattle.book.specs.Book.{todayOf}
+use Rattle.book.specs.Book.{todayOf, Valid}
 use Rattle.book.specs.Instructing.{withdrawRefusals, doneRefused, withdrawDone, withdrawBy, withdraw, cancelRefused, cancelDone, cancel, deliverRefused, deliverDone, deliver}
 use Rattle.book.specs.Buying.{offerRefusalsFor, offerDone, offer}
-use Rattle.book.specs.Close.{nextDay, linesOf, closeRefused, closeDone, closeBy, close, closeWords}
-use Rattle.book.specs.Again.{againNumber, againDone, again, againWords}
+use Rattle.book.specs.Close.{nextDay, dayEnd, closeRefused, closeDone, closeBy, close, closeWords}
+use Rattle.book.specs.Again.{againAnswer, againDone, again, againWords}
 
+-- ---- the end of the day
+-- d is the end of the day of a book, and its price is not 0
+pub record Ends (b : Book) (d : DayEnd) : Type 0 where
+  pub setup : d .setup ≡ b .setup
+  pub today : d .today ≡ todayOf b
+  pub valid : ValidEnd d
+  pub price-some : 1 ≤ d .price
+
+-- a Close that passes the refusals from its input ends the day
+pub close-ends : (b : Book) → Valid b → (price rate words : ℕ) → answer (closeRefusalsIn price rate words) ≡ 0 → Ends b (dayEnd b price rate)
+close-ends b v price rate words e =
+    let g = close-given price rate words e in
+    record { setup = refl; today = refl; valid = record { setup = v .setup; price-most = g .price-most; rate-most = g .rate-most }; price-some = g .price-some }
+
+-- ---- the calls
 module _ (b : Book) where
   pub withdraw-case : (P : Done → Type 0) (n member : ℕ) → ((k : ℕ) → (k ≡ 0 → ⊥) → P (doneRefused b k)) →
       (n < b .legs .count → P (withdrawDone b n)) → P (withdraw b n member)
@@ -64,26 +83,35 @@ module _ (b : Book) where
       fetch-case (offerRefusalsIn supplier q price) (offerRefusalsFor b price) (λ o. offerDone b n supplier q price) (doneRefused b) P (b .ledger) n refl f g
 
   -- a Close, and the words of its list
-  pub close-case : (P : Closed → List ℕ → Type 0) (price rate : ℕ) (ws : List ℕ) → ((k : ℕ) → (k ≡ 0 → ⊥) → P (closeRefused b k) ws) →
-      ((next : Day) → nextDay b ≡ At next → answer (closeRefusalsIn price rate (length ws)) ≡ 0 → P (closeDone b price rate next) (written (linesOf b price rate) ws)) →
+  pub close-case : Valid b → (P : Closed → List ℕ → Type 0) (price rate : ℕ) (ws : List ℕ) → ((k : ℕ) → (k ≡ 0 → ⊥) → P (closeRefused b k) ws) →
+      ((d : DayEnd) → Ends b d → d .price ≡ price → (next : Day) → nextDay b ≡ At next → fewestWords ≤ length ws → P (closeDone b d next) (written (closeLines d (b .ledger)) ws)) →
       P (close b price rate (length ws)) (closeWords b price rate ws)
   unfolding close closeBy closeWords
-  close-case P price rate ws f g = by (nextDay b) refl
+  close-case v P price rate ws f g = by (nextDay b) refl
     where
+      d : DayEnd
+      d = dayEnd b price rate
+
+      lines : List ℕ
+      lines = written (closeLines d (b .ledger)) ws
+
       number : NextDay → ℕ
       number t = answer (closeRefusals price rate (length ws) t)
 
-      by : (t : NextDay) → nextDay b ≡ t → P (closeBy b price rate (length ws) t) (outcome (number t) (written (linesOf b price rate) ws) (λ k. ws))
+      by : (t : NextDay) → nextDay b ≡ t → P (closeBy b price rate (length ws) t) (outcome (number t) lines (λ k. ws))
       by Never q =
-          by-number (λ (us : List ℕ). P (closeRefused b (number Never)) us) (number Never) (written (linesOf b price rate) ws) (λ k. ws)
+          by-number (λ (us : List ℕ). P (closeRefused b (number Never)) us) (number Never) lines (λ k. ws)
           (λ z. f (number Never) z) (λ e. absurd (never-refused price rate (length ws) e))
       by (At next) q =
-          by-number₂ P (number (At next)) (closeDone b price rate next) (closeRefused b) (written (linesOf b price rate) ws) (λ k. ws)
-          (λ z. f (number (At next)) z) (λ e. g next q (close-passed price rate (length ws) (At next) e))
+          by-number₂ P (number (At next)) (closeDone b d next) (closeRefused b) lines (λ k. ws)
+          (λ z. f (number (At next)) z)
+          (λ e.
+          let p = close-passed price rate (length ws) (At next) e in
+          g d (close-ends b v price rate (length ws) p) refl next q (close-given price rate (length ws) p .long))
 
   -- an Again, and the words of its list
   pub again-case : (P : Closed → List ℕ → Type 0) (ws : List ℕ) → ((k : ℕ) → (k ≡ 0 → ⊥) → P (closeRefused b k) ws) →
-      (againNumber b (length ws) ≡ 0 → P (againDone b) (written (linesKept (b .last)) ws)) → P (again b (length ws)) (againWords b ws)
+      (againAnswer b (length ws) ≡ 0 → P (againDone b) (written (linesKept (b .last)) ws)) → P (again b (length ws)) (againWords b ws)
   unfolding again againWords
   again-case P ws f g =
-      by-number₂ P (againNumber b (length ws)) (againDone b) (closeRefused b) (written (linesKept (b .last)) ws) (λ k. ws) (λ z. f (againNumber b (length ws)) z) g
+      by-number₂ P (againAnswer b (length ws)) (againDone b) (closeRefused b) (written (linesKept (b .last)) ws) (λ k. ws) (λ z. f (againAnswer b (length ws)) z) g

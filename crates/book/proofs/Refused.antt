@@ -16,7 +16,7 @@ use Rattle.instructions.specs.declared.FetchedLeg.the-variants.{Found, Absent}
 use Rattle.instructions.specs.Legs.{fetchedLeg}
 use Rattle.instructions.specs.Match.{lowestFit}
 use Rattle.ledger.specs.Ledger.{fetched}
-use Rattle.refusals.specs.Members.{noMember}
+use Rattle.netting.specs.Accounts.{noMember}
 use Rattle.refusals.specs.Calls.{enterRefusals, cancelRefusalsIn, cancelRefusalsOf, deliverRefusalsIn, deliverRefusalsOf, offerRefusalsIn, offerRefusalsOf, closeRefusalsIn, closeRefusals, againRefusals}
 use Rattle.refusals.proofs.Named.{fetch-refuses}
 use Rattle.payments.specs.Month.{monthRefusals}

@@ -11,8 +11,8 @@ use Rattle.book.specs.declared.Closed.{Closed}
 use Rattle.book.specs.Close.{closeRefused}
 
 -- A17, Refusals, of Again: its answer number, with this many words lent
-abbrev pub againNumber : Book → ℕ → ℕ
-againNumber b words = answer (againRefusals (b .day .«has_closed») words)
+abbrev pub againAnswer : Book → ℕ → ℕ
+againAnswer b words = answer (againRefusals (b .day .«has_closed») words)
 
 -- N2 and N5, Again: if it is done, it returns the number of lines that the latest Close returned, and the same book
 abbrev pub againDone : Book → Closed
@@ -20,8 +20,8 @@ againDone b = record { answer = 0; count = b .last .count; book = b }
 
 -- N1 to N5, Again: with this many words lent
 unfoldable pub again : Book → ℕ → Closed
-again b words = outcome (againNumber b words) (againDone b) (closeRefused b)
+again b words = outcome (againAnswer b words) (againDone b) (closeRefused b)
 
 -- N2 and A5, Again: every word of the lent list as it ends. The lines of the latest Close stand at its front.
 unfoldable pub againWords : Book → List ℕ → List ℕ
-againWords b ws = outcome (againNumber b (length ws)) (written (linesKept (b .last)) ws) (λ n. ws)
+againWords b ws = outcome (againAnswer b (length ws)) (written (linesKept (b .last)) ws) (λ n. ws)

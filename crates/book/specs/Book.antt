@@ -13,8 +13,8 @@ use Rattle.instructions.specs.Legs.{waiting, ValidLegs}
 use Rattle.ledger.specs.declared.Obligation.{Obligation}
 use Rattle.ledger.specs.declared.Ledger.{Ledger}
 use Rattle.ledger.specs.Setup.{ValidSetup}
-use Rattle.ledger.specs.Obligations.{ageBy}
-use Rattle.ledger.specs.Ledger.{obligationAt, ValidLedger}
+use Rattle.ledger.specs.Obligations.{ageBy, lastOf}
+use Rattle.ledger.specs.Ledger.{mostPerClose, obligationAt, ValidLedger}
 use Rattle.reprint.specs.declared.LastClose.{LastClose}
 use Rattle.reprint.specs.Kept.{ValidLast}
 use Rattle.book.specs.declared.BookDay.{BookDay}
@@ -48,10 +48,6 @@ todayOf b = b .day .today
 unfoldable pub ageOf : Book → Obligation → ℕ
 ageOf b o = ageBy (b .setup) (todayOf b) o
 
--- the most that one Close moves on an account: 64 penalties of 1,500,000
-abbrev pub mostPerDay : ℕ
-mostPerDay = 96000000
-
 -- what holds of the day of every book with these closed days
 pub record ValidDay (closedDays : List Day) (d : BookDay) : Type 0 where
   pub today-clears : clearing closedDays (d .today) ≡ true
@@ -61,7 +57,7 @@ pub record ValidDay (closedDays : List Day) (d : BookDay) : Type 0 where
 -- come beyond its last day
 pub record Timely (b : Book) (o : Obligation) : Type 0 where
   pub clears : clearing (closedOf b) (o .deal .day) ≡ true
-  pub young : 1 ≤ o .parts .outstanding → ageOf b o ≤ b .setup .terms .last .0
+  pub young : 1 ≤ o .parts .outstanding → ageOf b o ≤ lastOf (b .setup .terms) o
 
 -- O9, Open: the premise of every call, which holds of the book of every Open and is kept by each call
 pub record Valid (b : Book) : Type 0 where
@@ -72,4 +68,4 @@ pub record Valid (b : Book) : Type 0 where
   pub last : ValidLast (b .last)
   pub room : 2 * b .ledger .count + waiting (b .legs) ≤ b .legs .count
   pub timely : (n : ℕ) → n < b .ledger .count → Timely b (obligationAt (b .ledger) n)
-  pub accounts-near : (m : ℕ) → natAbs (getD (b .ledger .accounts) m (pos 0)) ≤ mostPerDay * todayOf b .0
+  pub accounts-near : (m : ℕ) → natAbs (getD (b .ledger .accounts) m (pos 0)) ≤ mostPerClose * todayOf b .0

@@ -23,8 +23,8 @@ abbrev pub offerRefusalsFor : Book → ℕ → Obligation → List Refusal
 offerRefusalsFor b price o = offerRefusalsBy (b .setup) (todayOf b) (b .ledger .offers .count) price o
 
 -- A11, Refusals, of Offer: its answer number by what was fetched, with this setup, on this day and with this many offers
-unfoldable pub offerNumber : Setup → Day → ℕ → ℕ → ℕ → ℕ → Fetched → ℕ
-offerNumber setup today offers supplier q price f =
+unfoldable pub offerAnswerBy : Setup → Day → ℕ → ℕ → ℕ → ℕ → Fetched → ℕ
+offerAnswerBy setup today offers supplier q price f =
     answer (fetchRefusals (offerRefusalsIn supplier q price) f (offerRefusalsBy setup today offers price))
 
 -- A11, Refusals, of Offer

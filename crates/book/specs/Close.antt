@@ -9,7 +9,6 @@ use Rattle.calendar.specs.declared.NextDay.{NextDay}
 use Rattle.calendar.specs.declared.NextDay.the-variants.{At, Never}
 use Rattle.calendar.specs.Days.{nextAfter}
 use Rattle.closing.specs.declared.DayEnd.{DayEnd}
-use Rattle.closing.specs.declared.Line.{Line}
 use Rattle.closing.specs.Lines.{written}
 use Rattle.closing.specs.Close.{closeLines, closedLedger}
 use Rattle.reprint.specs.Kept.{keptFrom}
@@ -27,37 +26,32 @@ nextDay b = nextAfter (closedOf b) (todayOf b)
 abbrev pub dayEnd : Book → ℕ → ℕ → DayEnd
 dayEnd b price rate = record { setup = b .setup; today = todayOf b; price = price; rate = rate }
 
--- C3 to C14, Close: its lines
-abbrev pub linesOf : Book → ℕ → ℕ → List Line
-linesOf b price rate = closeLines (dayEnd b price rate) (b .ledger)
-
 -- C17, Close, and R21 and R22, Refusals: the day after it, on which a Month and an Again may come
 abbrev pub closedDay : Day → BookDay
 closedDay next = record { today = next; «close_since» = true; «has_closed» = true }
 
 -- C17, Close, and N2, Again: the book after it, of which today is the next clearing day, and which keeps the lines
-abbrev pub closedBook : Book → ℕ → ℕ → Day → Book
-closedBook b price rate next =
-    withLast (keptFrom (linesOf b price rate)) (withDay (closedDay next) (closedLedger (dayEnd b price rate) (b .ledger)) b)
+abbrev pub closedBook : Book → DayEnd → Day → Book
+closedBook b d next = withLast (keptFrom (closeLines d (b .ledger))) (withDay (closedDay next) (closedLedger d (b .ledger)) b)
 
 -- A5, Refusals: a refused Close or Again
 abbrev pub closeRefused : Book → ℕ → Closed
 closeRefused b n = record { answer = n; count = 0; book = b }
 
 -- A12, Refusals, of Close: its answer number, with this many words lent
-abbrev pub closeNumber : Book → ℕ → ℕ → ℕ → ℕ
-closeNumber b price rate words = answer (closeRefusals price rate words (nextDay b))
+abbrev pub closeAnswer : Book → ℕ → ℕ → ℕ → ℕ
+closeAnswer b price rate words = answer (closeRefusals price rate words (nextDay b))
 
 -- C15 and C17, Close: what it returns if it is done and next is the next clearing day
-abbrev pub closeDone : Book → ℕ → ℕ → Day → Closed
-closeDone b price rate next = record { answer = 0; count = length (linesOf b price rate); book = closedBook b price rate next }
+abbrev pub closeDone : Book → DayEnd → Day → Closed
+closeDone b d next = record { answer = 0; count = length (closeLines d (b .ledger)); book = closedBook b d next }
 
 -- C17 and R20, Close: by the next clearing day after today, with this many words lent. If there is none, the call is
 -- refused. If there is one, the call is done or refused.
 unfoldable pub closeBy : Book → ℕ → ℕ → ℕ → NextDay → Closed
 closeBy b price rate words Never = closeRefused b (answer (closeRefusals price rate words Never))
 closeBy b price rate words (At next) =
-    outcome (answer (closeRefusals price rate words (At next))) (closeDone b price rate next) (closeRefused b)
+    outcome (answer (closeRefusals price rate words (At next))) (closeDone b (dayEnd b price rate) next) (closeRefused b)
 
 -- C1 to C17, Close: with this many words lent
 unfoldable pub close : Book → ℕ → ℕ → ℕ → Closed
@@ -65,4 +59,4 @@ close b price rate words = closeBy b price rate words (nextDay b)
 
 -- C15 and A5, Close: every word of the lent list as it ends
 unfoldable pub closeWords : Book → ℕ → ℕ → List ℕ → List ℕ
-closeWords b price rate ws = outcome (closeNumber b price rate (length ws)) (written (linesOf b price rate) ws) (λ n. ws)
+closeWords b price rate ws = outcome (closeAnswer b price rate (length ws)) (written (closeLines (dayEnd b price rate) (b .ledger)) ws) (λ n. ws)

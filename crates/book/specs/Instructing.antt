@@ -17,11 +17,12 @@ use Rattle.instructions.specs.declared.FetchedLeg.the-variants.{Found, Absent}
 use Rattle.instructions.specs.Legs.{mostLegs, isWaiting, legOf, legAt, fetchedLeg, withState}
 use Rattle.instructions.specs.Match.{delivering, receiving, lowestFit}
 use Rattle.instructions.specs.Entry.{withEntry, legNumber, obligationNumber}
+use Rattle.ledger.specs.declared.Part.the-variants as part
 use Rattle.ledger.specs.declared.Obligation.{Obligation}
 use Rattle.ledger.specs.declared.Ledger.{Ledger}
 use Rattle.ledger.specs.declared.Fetched.{Fetched}
 use Rattle.ledger.specs.declared.Change.{Change}
-use Rattle.ledger.specs.Obligations.{newObligation, cashOf, wishing, movedByWish, delivering as deliveringFrom}
+use Rattle.ledger.specs.Obligations.{newObligation, cashOf, moving, wishing, movedByWish}
 use Rattle.ledger.specs.Ledger.{mostObligations, fetched, withObligation, refusedChange, withNew}
 use Rattle.book.specs.declared.Book.{Book}
 use Rattle.book.specs.declared.Entered.{Entered}
@@ -29,7 +30,7 @@ use Rattle.book.specs.declared.Done.{Done}
 use Rattle.book.specs.declared.Cancelled.{Cancelled}
 use Rattle.book.specs.declared.Delivered.{Delivered}
 use Rattle.refusals.specs.Calls.{fetchRefusals, fetchOutcome, enterRefusals, cancelRefusalsIn, cancelRefusalsOf, deliverRefusalsIn, deliverRefusalsOf}
-use Rattle.refusals.specs.Members.{noMember}
+use Rattle.netting.specs.Accounts.{noMember}
 use Rattle.book.specs.Book.{withLegs, withLedger, todayOf}
 
 -- ---- Enter
@@ -172,7 +173,7 @@ deliverRefused b n = record { answer = n; cash = 0; book = b }
 
 -- V1 and V2, Deliver: what it comes to if it is done on obligation o: the cash, and o after the delivery
 abbrev pub deliverTo : ℕ → Obligation → Change
-deliverTo q o = record { answer = 0; result = cashOf o q; obligation = deliveringFrom q o }
+deliverTo q o = record { answer = 0; result = cashOf o q; obligation = moving part.Delivered q o }
 
 -- V1 and V2, Deliver: what it returns if it is done on obligation n, which is o
 abbrev pub deliverDone : Book → ℕ → ℕ → Obligation → Delivered

@@ -4,7 +4,7 @@ use mathlib.Core.Bool.{false}
 use mathlib.Core.List.{List}
 use Rattle.basics.specs.Refusals.{outcome}
 use Rattle.ledger.specs.Ledger.{clearedLedger}
-use Rattle.payments.specs.Month.{monthNumber, paidOut}
+use Rattle.payments.specs.Month.{monthAnswerBy, paidOut}
 use Rattle.book.specs.declared.Book.{Book}
 use Rattle.book.specs.declared.BookDay.{BookDay}
 use Rattle.book.specs.declared.Done.{Done}
@@ -21,7 +21,7 @@ monthBook b = withDay (paidDay (b .day)) (clearedLedger (b .ledger)) b
 
 -- A13, Refusals, of Month: its answer number, with this many places for payouts
 abbrev pub monthAnswer : Book → List ℕ → ℕ → ℕ
-monthAnswer b collected places = monthNumber (b .ledger .accounts) (b .day .«close_since») collected places
+monthAnswer b collected places = monthAnswerBy (b .ledger .accounts) (b .day .«close_since») collected places
 
 -- M3 and M10, Month: with this many places for payouts
 unfoldable pub month : Book → List ℕ → ℕ → Done

@@ -17,7 +17,7 @@ use Rattle.book.specs.declared.Balance.{Balance}
 use Rattle.book.specs.declared.Looked.{Looked}
 use Rattle.refusals.specs.Calls.{fetchRefusals, fetchOutcome}
 use Rattle.book.specs.Book.{todayOf}
-use Rattle.refusals.specs.Members.{noMember}
+use Rattle.netting.specs.Accounts.{noMember}
 
 -- A14, Refusals, of Status
 unfoldable pub statusRefusals : Book → ℕ → List Refusal

@@ -3,38 +3,38 @@ use crate::Book;
 use crate::Done;
 use calendar::Day;
 use ledger::Fetched;
+use ledger::Ledger;
 use ledger::Setup;
 use offers::Offer;
 ghost use mathlib.Core.Path.{_≡_};
 ghost use Rattle.ledger.specs.Setup.{ValidSetup};
-ghost use Rattle.ledger.specs.Ledger.{SoundFetched};
+ghost use Rattle.ledger.specs.Ledger.{fetched, ValidLedger};
 ghost use Rattle.book.specs.Book.{Valid};
-ghost use Rattle.book.specs.Buying.{offerNumber, offer};
+ghost use Rattle.book.specs.Buying.{offerAnswerBy, offer};
 
-// The answer number of an Offer for the obligation that was fetched, in a book with this setup, day and number of
-// offers.
-fn offer_number(
-    fetched: Fetched,
+// The answer number of an Offer for an obligation, in a book with this ledger, setup and day.
+fn offer_answer(
+    ledger: Ledger,
+    obligation: u64,
     setup: Setup,
     today: Day,
-    offers: usize,
     supplier: u64,
     quantity: u64,
     price: u64,
 ) -> u64
-    requires { ⌜ (SoundFetched fetched) × (ValidSetup setup) ⌝ }
-    ensures { λ r. ⌜ r ≡ offerNumber setup today offers supplier quantity price fetched ⌝ }
+    requires { ⌜ (ValidLedger ledger) × (ValidSetup setup) ⌝ }
+    ensures { λ r. ⌜ r ≡ offerAnswerBy setup today (ledger .offers .count) supplier quantity price (fetched ledger obligation) ⌝ }
 {
-    let number = refusals::offer_answer(supplier, quantity, price);
+    let number = refusals::offer_answer_in(supplier, quantity, price);
     if number != 0 {
         return number;
     }
-    let Fetched::Found(found) = fetched else {
+    let Fetched::Found(found) = ledger.fetch(obligation) else {
         return 13;
     };
     let closed_days = setup.closed_days;
     let age = closed_days.age_at(found.deal.day, today);
-    refusals::offer_answer_of(setup.terms, today, age, offers, found, price)
+    refusals::offer_answer_of(setup.terms, today, age, ledger.offers.count, found, price)
 }
 
 impl Book {
@@ -46,11 +46,11 @@ impl Book {
     {
         let mut ledger = self.ledger;
         let mut held = ledger.offers;
-        let number = offer_number(
-            ledger.fetch(obligation),
+        let number = offer_answer(
+            ledger,
+            obligation,
             self.setup,
             self.day.today,
-            held.count,
             supplier,
             quantity,
             price,

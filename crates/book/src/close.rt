@@ -19,7 +19,7 @@ impl Book {
         ensures { λ r. ⌜ now (lines .exit) ≡ closeWords self price rate (now (lines .entry)) ⌝ }
         ensures { λ r. ⌜ Valid (r .book) ⌝ }
     {
-        let number = refusals::close_answer(price, rate, lines.len());
+        let number = refusals::close_answer_in(price, rate, lines.len());
         if number != 0 {
             return Closed {
                 answer: number,

@@ -18,10 +18,12 @@ use ledger::Fetched;
 use ledger::Ledger;
 use ledger::Obligation;
 use ledger::Part;
-use refusals::LAST_MEMBER;
+use netting::LAST_MEMBER;
 ghost use mathlib.Core.Path.{_≡_};
+ghost use Prim.Native.Nat.{_≤_};
 ghost use Rattle.basics.specs.Refusals.{answer};
-ghost use Rattle.ledger.specs.Ledger.{SoundFetched};
+ghost use Rattle.instructions.specs.Legs.{mostLegs, fetchedLeg};
+ghost use Rattle.ledger.specs.Ledger.{fetched, ValidLedger};
 ghost use Rattle.book.specs.Book.{Valid};
 ghost use Rattle.book.specs.Instructing.{obligationOf, withMatch, Matchable, enter, withdraw};
 ghost use Rattle.book.specs.Instructing.{withdrawRefusals, cancelChange, cancel, deliverChange, deliver};
@@ -42,14 +44,15 @@ fn obligation_of(new: Leg, old: Leg) -> Obligation
     })
 }
 
-// The answer number of a Withdraw of the leg that was fetched.
-fn withdraw_answer(fetched: FetchedLeg, member: u64) -> u64
-    ensures { λ r. ⌜ r ≡ answer (withdrawRefusals fetched member) ⌝ }
+// The answer number of a Withdraw of one of these legs.
+fn withdraw_answer(legs: Legs, leg: u64, member: u64) -> u64
+    requires { ⌜ legs .count ≤ mostLegs ⌝ }
+    ensures { λ r. ⌜ r ≡ answer (withdrawRefusals (fetchedLeg legs leg) member) ⌝ }
 {
     if LAST_MEMBER < member {
         return 1;
     }
-    let FetchedLeg::Found(found) = fetched else {
+    let FetchedLeg::Found(found) = legs.fetch(leg) else {
         return 13;
     };
     let state = found.state;
@@ -62,18 +65,18 @@ fn withdraw_answer(fetched: FetchedLeg, member: u64) -> u64
     0
 }
 
-// What a Cancel comes to on the obligation that was fetched. Its result is the quantity that is cancelled.
-fn cancel_change(fetched: Fetched, member: u64) -> Change
-    requires { ⌜ SoundFetched fetched ⌝ }
-    ensures { λ r. ⌜ r ≡ cancelChange member fetched ⌝ }
+// What a Cancel comes to on the obligation that it names. Its result is the quantity that is cancelled.
+fn cancel_change(ledger: Ledger, obligation: u64, member: u64) -> Change
+    requires { ⌜ ValidLedger ledger ⌝ }
+    ensures { λ r. ⌜ r ≡ cancelChange member (fetched ledger obligation) ⌝ }
 {
     if LAST_MEMBER < member {
         return Change::refused(1);
     }
-    let Fetched::Found(found) = fetched else {
+    let Fetched::Found(found) = ledger.fetch(obligation) else {
         return Change::refused(13);
     };
-    let number = refusals::cancel_answer(found, member);
+    let number = refusals::cancel_answer_of(found, member);
     if number != 0 {
         return Change::refused(number);
     }
@@ -84,18 +87,18 @@ fn cancel_change(fetched: Fetched, member: u64) -> Change
     }
 }
 
-// What a Deliver comes to on the obligation that was fetched. Its result is the cash.
-fn deliver_change(fetched: Fetched, today: Day, quantity: u64) -> Change
-    requires { ⌜ SoundFetched fetched ⌝ }
-    ensures { λ r. ⌜ r ≡ deliverChange today quantity fetched ⌝ }
+// What a Deliver comes to on the obligation that it names. Its result is the cash.
+fn deliver_change(ledger: Ledger, obligation: u64, today: Day, quantity: u64) -> Change
+    requires { ⌜ ValidLedger ledger ⌝ }
+    ensures { λ r. ⌜ r ≡ deliverChange today quantity (fetched ledger obligation) ⌝ }
 {
     if basics::is_outside(1, MOST_QUANTITY, quantity) {
         return Change::refused(2);
     }
-    let Fetched::Found(found) = fetched else {
+    let Fetched::Found(found) = ledger.fetch(obligation) else {
         return Change::refused(13);
     };
-    let number = refusals::deliver_answer(today, found, quantity);
+    let number = refusals::deliver_answer_of(today, found, quantity);
     if number != 0 {
         return Change::refused(number);
     }
@@ -178,7 +181,7 @@ impl Book {
         ensures { λ r. ⌜ Valid (r .book) ⌝ }
     {
         let mut legs = self.legs;
-        let number = withdraw_answer(legs.fetch(leg), member);
+        let number = withdraw_answer(legs, leg, member);
         if number == 0 {
             legs = legs.set_state(leg, LegState::Withdrawn);
         }
@@ -196,7 +199,7 @@ impl Book {
         ensures { λ r. ⌜ Valid (r .book) ⌝ }
     {
         let ledger = self.ledger;
-        let change = cancel_change(ledger.fetch(obligation), member);
+        let change = cancel_change(ledger, obligation, member);
         let after = ledger.change(obligation, change);
         self.ledger = after;
         Cancelled {
@@ -213,7 +216,7 @@ impl Book {
         ensures { λ r. ⌜ Valid (r .book) ⌝ }
     {
         let ledger = self.ledger;
-        let change = deliver_change(ledger.fetch(obligation), self.day.today, quantity);
+        let change = deliver_change(ledger, obligation, self.day.today, quantity);
         let after = ledger.change(obligation, change);
         self.ledger = after;
         Delivered {

@@ -7,7 +7,7 @@ use calendar::Day;
 use ledger::Fetched;
 use ledger::NO_PARTS;
 use ledger::Obligation;
-use refusals::LAST_MEMBER;
+use netting::LAST_MEMBER;
 ghost use mathlib.Core.Path.{_≡_};
 ghost use Prim.Native.Nat.{_≤_};
 ghost use Rattle.ledger.specs.Ledger.{mostObligations};

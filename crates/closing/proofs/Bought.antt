@@ -16,6 +16,7 @@ use Rattle.ledger.specs.declared.Part.the-variants.{BoughtIn}
 use Rattle.ledger.specs.declared.Obligation.{Obligation}
 use Rattle.ledger.specs.Obligations.{moving, Sound, Takes}
 use Rattle.ledger.proofs.Keeping.{moving-none, moving-more, moving-sound}
+use Rattle.ledger.specs.Lines.{wordsInLine}
 use Rattle.closing.specs.declared.Closing.{Closing}
 use Rattle.closing.specs.Lines.{Made, then, Room, Wrote}
 use Rattle.closing.specs.Stages.{boughtFrom, boughtAll}
@@ -88,7 +89,7 @@ module _ (n : ℕ) (o : Obligation) (b : BuyIn) (h : Buys o b) where
       rw (e, ← taken-at k l) (t, p)
 
   pub so-far-room : (k : ℕ) (count : ℕ) (r : Closing) (ws ws' : List ℕ) → k < b .count → Room count ws (boughtAll n (taken b) o) →
-      Wrote count ws r ws' (soFar k) → 6 * (r .count + 1) ≤ length ws'
+      Wrote count ws r ws' (soFar k) → wordsInLine * (r .count + 1) ≤ length ws'
   so-far-room k count r ws ws' l room w =
       omega (
         arith,

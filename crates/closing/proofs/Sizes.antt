@@ -1,6 +1,7 @@
 -- How large the numbers of the lines of a Close are: `lines-sound` at the end.
 use Prim.Native.Nat.{ℕ, zero, suc, _≤_, _<_}
 use native.Mathlib.Omega.{arith}
+use mathlib.Core.Bool.{Bool}
 use mathlib.Core.List.{List, [], _∷_}
 use lib.Dec.{eqb}
 use Rattle.basics.specs.Lists.{Every}
@@ -12,37 +13,36 @@ use Rattle.offers.specs.declared.Offer.{Offer}
 use Rattle.offers.specs.declared.Given.{Given}
 use Rattle.offers.specs.Held.{listed}
 use Rattle.offers.proofs.Giving.{Within, given-within, given-keeps}
-use Rattle.ledger.specs.declared.Terms.{Terms}
 use Rattle.ledger.specs.declared.Obligation.{Obligation}
 use Rattle.ledger.specs.declared.Ledger.{Ledger}
-use Rattle.ledger.specs.Obligations.{ageBy, inBuyIn, isDue, Sound}
+use Rattle.ledger.specs.Obligations.{ageBy, isDue, Sound}
 use Rattle.ledger.specs.Ledger.{mostObligations, obligationAt, SoundOffer}
 use Rattle.ledger.proofs.Keeping.{outstanding-most}
 use Rattle.closing.specs.declared.DayEnd.{DayEnd}
-use Rattle.closing.specs.Lines.{compensationKind, SoundLine, Made, then}
-use Rattle.closing.specs.Stages.{plainLine, penalised, noticeAt, boughtLine, boughtFrom, boughtAll, buyInAt, compensated, compensatedAt}
+use Rattle.closing.specs.Lines.{mostKind, SoundLine, Made, then}
+use Rattle.closing.specs.Stages.{plainLine, penaltyOn, penalised, noticeAt, boughtLine, boughtFrom, boughtAll, buyInAt, compensated, compensatedAt}
 use Rattle.closing.specs.Close.{stages, closedOne, linesUpTo, closeLines}
 use Rattle.closing.specs.Asked.{Closable}
-use Rattle.closing.proofs.Parts.{priced-goes, buy-in-goes, first, bought, stages-lines}
+use Rattle.closing.proofs.Parts.{priced-goes, buy-in-goes, measures, first, bought, stages-lines}
 
 -- the lines of a part of a Close
 abbrev Sized : Made → Type 0
 Sized m = Every SoundLine (m .lines)
 
 module _ (n : ℕ) (h : n < mostObligations) where
-  plain-sized : (kind cents : ℕ) (o : Obligation) → kind ≤ compensationKind → Sound o → Every SoundLine (plainLine kind n (o .parts .outstanding) cents ∷ [])
+  plain-sized : (kind cents : ℕ) (o : Obligation) → kind ≤ mostKind → Sound o → Every SoundLine (plainLine kind n (o .parts .outstanding) cents ∷ [])
   plain-sized kind cents o k s =
       let size : SoundLine (plainLine kind n (o .parts .outstanding) cents) =
       record { kind-most = k; there = h; quantity-most = outstanding-most o s; supplier-most = omega arith; price-most = omega arith } in
       also size nobody
 
-  penalty-sized : (price rate : ℕ) (o : Obligation) → Sound o → Sized (penalised n price rate o)
+  penalty-sized : (cents : ℕ) (o : Obligation) → Sound o → Sized (penalised n cents o)
   unfolding penalised
-  penalty-sized price rate o s = plain-sized _ _ o (omega arith) s
+  penalty-sized cents o s = plain-sized _ _ o (omega arith) s
 
-  notice-sized : (terms : Terms) (age : ℕ) (o : Obligation) → Sound o → Sized (noticeAt terms age n o)
+  notice-sized : (comes : Bool) (o : Obligation) → Sound o → Sized (noticeAt comes n o)
   unfolding noticeAt
-  notice-sized terms age o s = pick-case Sized (eqb age (terms .notice .0)) _ _ (λ e. plain-sized _ _ o (omega arith) s) (λ e. nobody)
+  notice-sized comes o s = pick-case Sized comes _ _ (λ e. plain-sized _ _ o (omega arith) s) (λ e. nobody)
 
   bought-from-sized : (m : ℕ) (g : Given) (o : Obligation) → Within g → SoundOffer m (g .offer) → Sized (boughtFrom n g o)
   unfolding boughtFrom
@@ -62,17 +62,17 @@ module _ (n : ℕ) (h : n < mostObligations) where
   bought-sized m o (also {x} {xs} w ws) (also s ss) =
       every-append (bought-from-sized m x o w s) (bought-sized m (boughtFrom n x o .obligation) ws ss)
 
-  buy-in-sized : (m : ℕ) (terms : Terms) (age : ℕ) (offers : List Offer) (o : Obligation) → Every (SoundOffer m) offers → Sized (buyInAt terms age offers n o)
+  buy-in-sized : (m : ℕ) (comes : Bool) (offers : List Offer) (o : Obligation) → Every (SoundOffer m) offers → Sized (buyInAt comes offers n o)
   unfolding buyInAt
-  buy-in-sized m terms age offers o s =
-      pick-case Sized (inBuyIn terms age) _ _
+  buy-in-sized m comes offers o s =
+      pick-case Sized comes _ _
       (λ e. bought-sized m o (given-within n (o .parts .outstanding) offers) (given-keeps n (o .parts .outstanding) s))
       (λ e. nobody)
 
-  compensated-sized : (terms : Terms) (age price : ℕ) (o : Obligation) → Sound o → Sized (compensatedAt terms age price n o)
+  compensated-sized : (comes : Bool) (price : ℕ) (o : Obligation) → Sound o → Sized (compensatedAt comes price n o)
   unfolding compensatedAt compensated
-  compensated-sized terms age price o s =
-      pick-case Sized (eqb age (terms .last .0)) _ _
+  compensated-sized comes price o s =
+      pick-case Sized comes _ _
       (λ e. pick-case Sized (eqb (o .parts .outstanding) 0) _ _ (λ z. nobody) (λ z. plain-sized _ _ o (omega arith) s))
       (λ e. nobody)
 
@@ -88,10 +88,11 @@ module _ (n : ℕ) (h : n < mostObligations) where
           let q = first d age offers n o in
           let t = priced-goes (d .setup .terms) age (d .price) o p s .sound in
           let b = bought d age offers n o in
+          let m' = measures d age offers n o in
           rw (stages-lines d age offers n o)
           (every-append
-          (every-append (every-append (penalty-sized (d .price) (d .rate) q t) (notice-sized (d .setup .terms) age q t)) (buy-in-sized m (d .setup .terms) age offers q xs))
-          (compensated-sized (d .setup .terms) age (d .price) (b .obligation) (buy-in-goes (d .setup .terms) age offers n q t .sound)))
+          (every-append (every-append (penalty-sized (penaltyOn d o) q t) (notice-sized (m' .notice) q t)) (buy-in-sized m (m' .«buy_in») offers q xs))
+          (compensated-sized (m' .compensation) (d .price) (b .obligation) (buy-in-goes (m' .«buy_in») offers n q t .sound)))
 
 -- every line of a Close
 pub lines-sound : (d : DayEnd) (l : Ledger) (ws : List ℕ) → Closable d l ws → Every SoundLine (closeLines d l)
@@ -102,4 +103,4 @@ lines-sound d l ws c = up-to (l .count) (omega arith)
     up-to zero h = nobody
     up-to (suc n) h =
         every-append (up-to n (omega arith))
-        (closed-sized n (omega (arith, c .valid .few)) (l .count) d (listed (l .offers)) (obligationAt l n) (c .price-most) (c .valid .sound n (omega arith)) (c .valid .offers .sound))
+        (closed-sized n (omega (arith, c .valid .few)) (l .count) d (listed (l .offers)) (obligationAt l n) (c .end .price-most) (c .valid .sound n (omega arith)) (c .valid .offers .sound))

@@ -5,9 +5,10 @@ use native.Mathlib.Omega.{arith}
 use native.Mathlib.Numerals.{add-one}
 use native.Mathlib.Nat.{zero-add}
 use mathlib.Core.Path.{_≡_, refl, sym, ap, ap₂, _∙_}
-use mathlib.Core.List.{List}
+use mathlib.Core.Bool.{true, false}
+use mathlib.Core.List.{List, append-nil}
 use lib.ListN.{length, getD, set, length-append, length-set}
-use lib.Seq.{sets, length-sets, getD-set-other}
+use lib.Seq.{sets, length-sets, getD-set-other, set-getD}
 use Rattle.basics.specs.Lists.{sum, table}
 use Rattle.basics.proofs.Everywhere.{every-map}
 use Rattle.basics.proofs.Places.{set-case}
@@ -21,16 +22,17 @@ use Rattle.offers.proofs.Results.{all-lines-most}
 use Rattle.ledger.specs.declared.Obligation.{Obligation}
 use Rattle.ledger.specs.declared.Ledger.{Ledger}
 use Rattle.ledger.specs.Setup.{ValidTerms}
-use Rattle.ledger.specs.Obligations.{noObligation}
+use Rattle.ledger.specs.Obligations.{noObligation, ageBy, isDue}
+use Rattle.ledger.specs.Lines.{wordsInLine, mostLines}
 use Rattle.ledger.specs.Ledger.{mostObligations, obligationAt, SoundOffer}
 use Rattle.closing.specs.declared.DayEnd.{DayEnd}
 use Rattle.closing.specs.declared.Line.{Line}
 use Rattle.closing.specs.declared.Closing.{Closing}
-use Rattle.closing.specs.Lines.{mostLines, flat, written, Room, Wrote}
-use Rattle.closing.specs.Close.{closedAt, rowsUpTo, linesUpTo}
+use Rattle.closing.specs.Lines.{flat, written, Room, Wrote}
+use Rattle.closing.specs.Close.{stages, closedAt, rowsUpTo, linesUpTo}
 use Rattle.closing.specs.Asked.{Closes, Closable, ClosedAs}
 use Rattle.closing.proofs.Lines.{flat-length, flat-stores}
-use Rattle.closing.proofs.Parts.{closed-most}
+use Rattle.closing.proofs.Parts.{closed-most, due-stages, not-due-same}
 
 module _ (d : DayEnd) (os : List Obligation) where
   -- ---- lines
@@ -112,13 +114,32 @@ module _ (d : DayEnd) (offers : List Offer) (os : List Obligation) (n : ℕ) (ne
         counted = omega (arith, w .counted, s .counted, length-append ls ms);
         words =
             w .words
-            ∙ ap (λ (l : List ℕ). sets l (6 * count) (flat ms)) (s .words)
-            ∙ ap (λ (k : ℕ). sets (sets ws 0 (flat ls)) (6 * k) (flat ms)) (s .counted)
+            ∙ ap (λ (l : List ℕ). sets l (wordsInLine * count) (flat ms)) (s .words)
+            ∙ ap (λ (k : ℕ). sets (sets ws 0 (flat ls)) (wordsInLine * k) (flat ms)) (s .counted)
             ∙ rw zero-add at (flat-stores ws 0 ls ms);
       })
 
+  -- the next obligation is due, and it was closed
+  pub done-due : isDue (d .today) (getD os n noObligation) ≡ true → (r : Closing) (ws'' : List ℕ) →
+      Wrote count ws' r ws'' (stages d (ageBy (d .setup) (d .today) (getD os n noObligation)) offers n (getD os n noObligation)) →
+      Done d offers os (n + 1) (set next n (r .obligation)) (r .count) ws ws''
+  done-due e r ws'' w = done-one r ws'' (rw (due-stages d offers n (getD os n noObligation) e) w)
+
+  -- the next obligation is not due, so nothing is to be done
+  pub done-idle : isDue (d .today) (getD os n noObligation) ≡ false → Done d offers os (n + 1) next count ws ws'
+  unfolding rowsUpTo linesUpTo
+  done-idle e =
+      let o = getD os n noObligation in
+      let rows = rowsUpTo d offers os n in
+      let same = not-due-same d offers n o e in
+      rw (add-one n) (record {
+        rows = s .rows ∙ sym (set-getD rows n noObligation) ∙ ap (set rows n) (rows-behind d os offers n n (omega arith)) ∙ rw same refl;
+        counted = rw (same, append-nil ls) (s .counted);
+        words = rw (same, append-nil ls) (s .words);
+      })
+
   -- the lines are at the front, and the words behind them are as they were
-  pub done-all : 6 * length ls ≤ length ws → ClosedAs (rowsUpTo d offers os n) ls next count ws ws'
+  pub done-all : wordsInLine * length ls ≤ length ws → ClosedAs (rowsUpTo d offers os n) ls next count ws ws'
   unfolding written
   done-all h = record {
     result = s .rows;
@@ -133,7 +154,7 @@ unfolding linesUpTo
 done-room d l n count next ws ws' c h s =
     omega (
       arith,
-      lines-most d (l .obligations) (l .offers) (c .setup .terms) (c .valid .offers .few) (suc n) (omega (arith, c .valid .few)),
+      lines-most d (l .obligations) (l .offers) (c .end .setup .terms) (c .valid .offers .few) (suc n) (omega (arith, c .valid .few)),
       length-append (linesUpTo d (listed (l .offers)) (l .obligations) n) (closedAt d (listed (l .offers)) (l .obligations) n .lines),
       s .counted,
       done-length d (listed (l .offers)) (l .obligations) n next count ws ws' s,
@@ -144,8 +165,6 @@ done-room d l n count next ws ws' c h s =
 pub done-closes : (d : DayEnd) (l : Ledger) (n : ℕ) (ws : List ℕ) → Closable d l ws → n < l .count → Closes d (l .offers) (obligationAt l n)
 done-closes d l n ws c h = record {
   sound = c .valid .sound n h;
-  setup = c .setup;
-  price-most = c .price-most;
-  rate-most = c .rate-most;
+  end = c .end;
   priced = record { few = c .valid .offers .few; prices = every-map (λ (x : Offer) (s : SoundOffer (l .count) x). s .price-most) (c .valid .offers .sound) };
 }

@@ -4,27 +4,30 @@ use mathlib.Core.List.{List, [], _++_}
 use lib.IntN.{ℤ}
 use lib.ListN.{getD, set}
 use Rattle.basics.specs.Choice.{pick}
-use Rattle.calendar.specs.declared.Day.{Day}
-use Rattle.amounts.specs.Amounts.{penalty}
 use Rattle.netting.specs.Accounts.{transferred}
 use Rattle.offers.specs.declared.Offer.{Offer}
 use Rattle.offers.specs.Held.{noOffers, listed}
 use Rattle.ledger.specs.declared.Obligation.{Obligation}
 use Rattle.ledger.specs.declared.Ledger.{Ledger}
-use Rattle.ledger.specs.Obligations.{noObligation, ageBy, isDue}
+use Rattle.ledger.specs.Obligations.{noObligation, ageBy, isDue, sidesOf}
 use Rattle.closing.specs.declared.DayEnd.{DayEnd}
+use Rattle.closing.specs.declared.Measures.{Measures}
 use Rattle.closing.specs.declared.Line.{Line}
 use Rattle.closing.specs.Lines.{Made, nothing, then}
-use Rattle.closing.specs.Stages.{priced, penalised, noticeAt, buyInAt, compensatedAt}
+use Rattle.closing.specs.Stages.{priced, penaltyOn, measuresAt, penalised, noticeAt, buyInAt, compensatedAt}
 
--- C3, Close: what happens to an obligation that is due: its penalty, then a notice, then the buy-in, then compensation.
--- Before these the price is stored at age = grace (B9).
+-- C3, Close: the course of a Close for one obligation, with these cents of penalty and these measures: its penalty, then a
+-- notice, then the buy-in, then compensation
+unfoldable pub course : ℕ → Measures → ℕ → List Offer → ℕ → Obligation → Made
+course cents m price offers n o =
+    then (then (then (penalised n cents o) (noticeAt (m .notice) n)) (buyInAt (m .«buy_in») offers n))
+    (compensatedAt (m .compensation) price n)
+
+-- C3, Close: what happens to an obligation that is due. Its penalty and its measures are those of the obligation as the
+-- Close begins. Before all else the price is stored at age = grace (B9).
 unfoldable pub stages : DayEnd → ℕ → List Offer → ℕ → Obligation → Made
 stages d age offers n o =
-    then (then (then (penalised n (d .price) (d .rate) (priced (d .setup .terms) age (d .price) o))
-    (noticeAt (d .setup .terms) age n))
-    (buyInAt (d .setup .terms) age offers n))
-    (compensatedAt (d .setup .terms) age (d .price) n)
+    course (penaltyOn d o) (measuresAt (d .setup .terms) age o) (d .price) offers n (priced (d .setup .terms) age (d .price) o)
 
 -- C2, Close: what happens to an obligation. It is due if its J is today or earlier and something of it is outstanding;
 -- any other obligation stays as it is.
@@ -46,16 +49,15 @@ unfoldable pub linesUpTo : DayEnd → List Offer → List Obligation → ℕ →
 linesUpTo d offers os zero = []
 linesUpTo d offers os (suc n) = linesUpTo d offers os n ++ closedAt d offers os n .lines
 
--- C4 and C5, Close: the accounts after the penalty of one obligation, which passes from the seller to the buyer
-unfoldable pub fined : Day → ℕ → ℕ → Obligation → List ℤ → List ℤ
-fined today price rate o accounts =
-    pick (isDue today o) (transferred (o .deal .seller) (o .deal .buyer) (penalty (o .parts .outstanding) price rate) accounts) accounts
+-- C4 and C5, Close: the accounts after the penalty of one obligation, which passes from its debtor to its creditor
+unfoldable pub fined : DayEnd → Obligation → List ℤ → List ℤ
+fined d o accounts =
+    pick (isDue (d .today) o) (transferred (sidesOf o .debtor) (sidesOf o .creditor) (penaltyOn d o) accounts) accounts
 
 -- C5, Close: the accounts after the penalties of the first n obligations
-unfoldable pub accountsUpTo : Day → ℕ → ℕ → List Obligation → List ℤ → ℕ → List ℤ
-accountsUpTo today price rate os accounts zero = accounts
-accountsUpTo today price rate os accounts (suc n) =
-    fined today price rate (getD os n noObligation) (accountsUpTo today price rate os accounts n)
+unfoldable pub accountsUpTo : DayEnd → List Obligation → List ℤ → ℕ → List ℤ
+accountsUpTo d os accounts zero = accounts
+accountsUpTo d os accounts (suc n) = fined d (getD os n noObligation) (accountsUpTo d os accounts n)
 
 -- C3 to C15, Close: all lines
 abbrev pub closeLines : DayEnd → Ledger → List Line
@@ -67,5 +69,5 @@ closedLedger d l = record {
   obligations = rowsUpTo d (listed (l .offers)) (l .obligations) (l .count);
   count = l .count;
   offers = noOffers;
-  accounts = accountsUpTo (d .today) (d .price) (d .rate) (l .obligations) (l .accounts) (l .count);
+  accounts = accountsUpTo d (l .obligations) (l .accounts) (l .count);
 }

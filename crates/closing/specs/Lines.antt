@@ -7,13 +7,10 @@ use lib.Seq.{sets}
 use Rattle.basics.specs.Lists.{table, atFront}
 use Rattle.amounts.specs.Amounts.{mostQuantity, mostOfferPrice}
 use Rattle.ledger.specs.declared.Obligation.{Obligation}
+use Rattle.ledger.specs.Lines.{wordsInLine}
 use Rattle.ledger.specs.Ledger.{mostObligations, mostSupplier}
 use Rattle.closing.specs.declared.Line.{Line}
 use Rattle.closing.specs.declared.Closing.{Closing}
-
--- C16, Close: a Close makes no more lines than this: two for each of 64 obligations and one for each of 64 offers
-abbrev pub mostLines : ℕ
-mostLines = 192
 
 -- C12, Close: a penalty is a line of kind 1
 abbrev pub penaltyKind : ℕ
@@ -31,6 +28,10 @@ boughtKind = 3
 abbrev pub compensationKind : ℕ
 compensationKind = 4
 
+-- C12, Close: the highest kind of a line
+abbrev pub mostKind : ℕ
+mostKind = compensationKind
+
 -- C11, Close: the six words of a line
 abbrev pub wordsOf : Line → List ℕ
 wordsOf l = l .kind ∷ l .obligation ∷ l .quantity ∷ l .cents ∷ l .supplier ∷ l .price ∷ []
@@ -44,15 +45,15 @@ flat (l ∷ ls) = wordsOf l ++ flat ls
 unfoldable pub written : List Line → List ℕ → List ℕ
 written ls ws = atFront (flat ls) ws
 
--- C11, Close: the line with number i of a list, from 0 on; each line has six words
+-- C11, Close: the line with number i of a list, from 0 on
 abbrev pub lineAt : List ℕ → ℕ → Line
 lineAt ws i = record {
-  kind = getD ws (6 * i) 0;
-  obligation = getD ws (6 * i + 1) 0;
-  quantity = getD ws (6 * i + 2) 0;
-  cents = getD ws (6 * i + 3) 0;
-  supplier = getD ws (6 * i + 4) 0;
-  price = getD ws (6 * i + 5) 0;
+  kind = getD ws (wordsInLine * i) 0;
+  obligation = getD ws (wordsInLine * i + 1) 0;
+  quantity = getD ws (wordsInLine * i + 2) 0;
+  cents = getD ws (wordsInLine * i + 3) 0;
+  supplier = getD ws (wordsInLine * i + 4) 0;
+  price = getD ws (wordsInLine * i + 5) 0;
 }
 
 -- C11 and J5, Close: the first count lines of a list, as they are read from it
@@ -61,7 +62,7 @@ linesRead count ws = table count (lineAt ws)
 
 -- how large the numbers of a line are at most; this holds of every line of a Close
 pub record SoundLine (l : Line) : Type 0 where
-  pub kind-most : l .kind ≤ compensationKind
+  pub kind-most : l .kind ≤ mostKind
   pub there : l .obligation < mostObligations
   pub quantity-most : l .quantity ≤ mostQuantity
   pub supplier-most : l .supplier ≤ mostSupplier
@@ -86,11 +87,11 @@ then m f = record { obligation = f (m .obligation) .obligation; lines = m .lines
 
 -- there is room for the lines of a part behind count lines
 abbrev pub Room : ℕ → List ℕ → Made → Type 0
-Room count ws m = 6 * (count + length (m .lines)) ≤ length ws
+Room count ws m = wordsInLine * (count + length (m .lines)) ≤ length ws
 
 -- A part was carried out behind count lines. r has the obligation and the number of lines after it, and ws' is the list
 -- after it.
 pub record Wrote (count : ℕ) (ws : List ℕ) (r : Closing) (ws' : List ℕ) (m : Made) : Type 0 where
   pub made : r .obligation ≡ m .obligation
   pub counted : r .count ≡ count + length (m .lines)
-  pub words : ws' ≡ sets ws (6 * count) (flat (m .lines))
+  pub words : ws' ≡ sets ws (wordsInLine * count) (flat (m .lines))

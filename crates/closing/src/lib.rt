@@ -6,6 +6,7 @@ use ledger::Obligation;
 use ledger::Part;
 use ledger::Setup;
 use ledger::Terms;
+use ledger::WORDS_IN_LINE;
 use offers::BuyIn;
 use offers::Given;
 use offers::Offers;
@@ -13,14 +14,15 @@ ghost use mathlib.Core.Path.{_≡_};
 ghost use Prim.Native.Nat.{_+_, _*_, _≤_};
 ghost use lib.ListN.{length};
 ghost use lib.Seq.{sets};
-ghost use Rattle.amounts.specs.Amounts.{mostClosePrice, mostOfferPrice, mostRate};
-ghost use Rattle.netting.specs.Accounts.{memberCount, Bounded};
-ghost use Rattle.ledger.specs.Obligations.{Sound, Takes};
+ghost use Rattle.amounts.specs.Amounts.{mostClosePrice, mostOfferPrice};
+ghost use Rattle.ledger.specs.Lines.{wordsInLine};
+ghost use Rattle.ledger.specs.Obligations.{ageBy, Sound, Takes};
 ghost use Rattle.offers.specs.Held.{listed};
 ghost use Rattle.closing.specs.Lines.{wordsOf, one, Wrote, Room};
-ghost use Rattle.closing.specs.Stages.{plainLine, priced, penalised, noticeAt, boughtFrom, boughtAll, buyInAt, compensatedAt};
-ghost use Rattle.closing.specs.Close.{stages, closedOne, fined, closedLedger, closeLines};
-ghost use Rattle.closing.specs.Asked.{taken, Priced, Buys, Closes, Closable, ClosedAs};
+ghost use Rattle.closing.specs.Stages.{plainLine, priced, penaltyOn, measuresAt};
+ghost use Rattle.closing.specs.Stages.{penalised, noticeAt, boughtFrom, boughtAll, buyInAt, compensatedAt};
+ghost use Rattle.closing.specs.Close.{stages, closedLedger, closeLines};
+ghost use Rattle.closing.specs.Asked.{taken, Priced, Buys, ValidEnd, Closes, Closable, ClosedAs};
 
 // What a Close works with: the setup and the day of the book, and the price and the rate that it was given.
 pub struct DayEnd {
@@ -28,6 +30,13 @@ pub struct DayEnd {
     pub today: Day,
     pub price: u64,
     pub rate: u64,
+}
+
+// What a Close does to an obligation beside its penalty.
+pub struct Measures {
+    pub notice: bool,
+    pub buy_in: bool,
+    pub compensation: bool,
 }
 
 // The kinds of a line. Each has its definition in specs/, as `penaltyKind`.
@@ -77,10 +86,10 @@ fn plain_line(kind: u64, number: u64, quantity: u64, cents: u64) -> Line
 
 // Writes a line behind the count lines that are there.
 pub fn put_line(lines: &mut [u64], count: usize, line: Line)
-    requires { ⌜ 6 * (count + 1) ≤ length (now lines) ⌝ }
-    ensures { λ _. ⌜ now (lines .exit) ≡ sets (now (lines .entry)) (6 * count) (wordsOf line) ⌝ }
+    requires { ⌜ wordsInLine * (count + 1) ≤ length (now lines) ⌝ }
+    ensures { λ _. ⌜ now (lines .exit) ≡ sets (now (lines .entry)) (wordsInLine * count) (wordsOf line) ⌝ }
 {
-    let at = 6 * count;
+    let at = WORDS_IN_LINE * count;
     lines[at] = line.kind;
     lines[at + 1] = line.obligation;
     lines[at + 2] = line.quantity;
@@ -112,31 +121,34 @@ fn keep_price(o: Obligation, terms: Terms, age: ClearingDays, price: u64) -> Obl
     o
 }
 
+// Decides what is done to an obligation of this age beside its penalty.
+fn measures_at(terms: Terms, age: ClearingDays, o: Obligation) -> Measures
+    ensures { λ r. ⌜ r ≡ measuresAt terms (age .0) o ⌝ }
+{
+    let last = o.last_of(terms);
+    Measures {
+        notice: age.0 == terms.notice.0,
+        buy_in: ledger::buys_in(terms.grace, last, age),
+        compensation: age.0 == last.0,
+    }
+}
+
 // Reports the penalty on what is outstanding before any buy-in.
-fn penalise(s: Closing, number: u64, price: u64, rate: u64, lines: &mut [u64]) -> Closing
-    requires { ⌜ (Sound (s .obligation)) × (price ≤ mostClosePrice) × (rate ≤ mostRate) ⌝ }
-    requires { ⌜ Room (s .count) (now lines) (penalised number price rate (s .obligation)) ⌝ }
-    ensures { λ r. ⌜ Wrote (s .count) (now (lines .entry)) r (now (lines .exit)) (penalised number price rate (s .obligation)) ⌝ }
+fn penalise(s: Closing, number: u64, cents: u64, lines: &mut [u64]) -> Closing
+    requires { ⌜ Room (s .count) (now lines) (penalised number cents (s .obligation)) ⌝ }
+    ensures { λ r. ⌜ Wrote (s .count) (now (lines .entry)) r (now (lines .exit)) (penalised number cents (s .obligation)) ⌝ }
 {
     let o = s.obligation;
-    let left = o.parts.outstanding as u64;
-    let cents = amounts::penalty_of(left, price, rate);
-    let line = plain_line(PENALTY, number, left, cents);
+    let line = plain_line(PENALTY, number, o.parts.outstanding as u64, cents);
     report(o, s.count, line, lines)
 }
 
-// Reports a notice at age = notice.
-fn give_notice(
-    s: Closing,
-    number: u64,
-    terms: Terms,
-    age: ClearingDays,
-    lines: &mut [u64],
-) -> Closing
-    requires { ⌜ Room (s .count) (now lines) (noticeAt terms (age .0) number (s .obligation)) ⌝ }
-    ensures { λ r. ⌜ Wrote (s .count) (now (lines .entry)) r (now (lines .exit)) (noticeAt terms (age .0) number (s .obligation)) ⌝ }
+// Reports a notice, if there is to be one.
+fn give_notice(s: Closing, number: u64, comes: bool, lines: &mut [u64]) -> Closing
+    requires { ⌜ Room (s .count) (now lines) (noticeAt comes number (s .obligation)) ⌝ }
+    ensures { λ r. ⌜ Wrote (s .count) (now (lines .entry)) r (now (lines .exit)) (noticeAt comes number (s .obligation)) ⌝ }
 {
-    if age.0 == terms.notice.0 {
+    if comes {
         let o = s.obligation;
         let line = plain_line(NOTICE, number, o.parts.outstanding as u64, 0);
         return report(o, s.count, line, lines);
@@ -184,40 +196,26 @@ fn buy_all(start: Closing, number: u64, bought: BuyIn, lines: &mut [u64]) -> Clo
     s
 }
 
-// Makes the buy-in at ages above grace up to last.
-fn buy_in(
-    s: Closing,
-    number: u64,
-    terms: Terms,
-    age: ClearingDays,
-    offers: Offers,
-    lines: &mut [u64],
-) -> Closing
+// Makes the buy-in, if there is to be one.
+fn buy_in(s: Closing, number: u64, comes: bool, offers: Offers, lines: &mut [u64]) -> Closing
     requires { ⌜ (Sound (s .obligation)) × (Priced offers) ⌝ }
-    requires { ⌜ Room (s .count) (now lines) (buyInAt terms (age .0) (listed offers) number (s .obligation)) ⌝ }
-    ensures { λ r. ⌜ Wrote (s .count) (now (lines .entry)) r (now (lines .exit)) (buyInAt terms (age .0) (listed offers) number (s .obligation)) ⌝ }
+    requires { ⌜ Room (s .count) (now lines) (buyInAt comes (listed offers) number (s .obligation)) ⌝ }
+    ensures { λ r. ⌜ Wrote (s .count) (now (lines .entry)) r (now (lines .exit)) (buyInAt comes (listed offers) number (s .obligation)) ⌝ }
 {
-    if terms.buys_in(age) {
+    if comes {
         let bought = offers.buy_in(number, s.obligation.parts.outstanding as u64);
         return buy_all(s, number, bought, lines);
     }
     s
 }
 
-// Compensates at age = last what is left, unless it is 0.
-fn compensate(
-    s: Closing,
-    number: u64,
-    terms: Terms,
-    age: ClearingDays,
-    price: u64,
-    lines: &mut [u64],
-) -> Closing
+// Compensates what is left, unless it is 0, if there is to be a compensation.
+fn compensate(s: Closing, number: u64, comes: bool, price: u64, lines: &mut [u64]) -> Closing
     requires { ⌜ (Sound (s .obligation)) × (price ≤ mostClosePrice) ⌝ }
-    requires { ⌜ Room (s .count) (now lines) (compensatedAt terms (age .0) price number (s .obligation)) ⌝ }
-    ensures { λ r. ⌜ Wrote (s .count) (now (lines .entry)) r (now (lines .exit)) (compensatedAt terms (age .0) price number (s .obligation)) ⌝ }
+    requires { ⌜ Room (s .count) (now lines) (compensatedAt comes price number (s .obligation)) ⌝ }
+    ensures { λ r. ⌜ Wrote (s .count) (now (lines .entry)) r (now (lines .exit)) (compensatedAt comes price number (s .obligation)) ⌝ }
 {
-    if age.0 == terms.last.0 {
+    if comes {
         let o = s.obligation;
         let left = o.parts.outstanding as u64;
         if left == 0 {
@@ -231,73 +229,47 @@ fn compensate(
     s
 }
 
-// Closes an obligation that is due and has this age.
+impl DayEnd {
+    // The penalty of an obligation at this end of a day.
+    fn penalty_on(self, o: Obligation) -> u64
+        requires { ⌜ (Sound o) × (ValidEnd self) ⌝ }
+        ensures { λ r. ⌜ r ≡ penaltyOn self o ⌝ }
+    {
+        amounts::penalty_of(o.parts.outstanding as u64, self.price, self.rate)
+    }
+}
+
+// Closes an obligation that is due and has this penalty.
 fn close_due(
     o: Obligation,
     number: u64,
-    age: ClearingDays,
+    cents: u64,
     day: DayEnd,
     offers: Offers,
     count: usize,
     lines: &mut [u64],
 ) -> Closing
-    requires { ⌜ Closes day offers o ⌝ }
-    requires { ⌜ Room count (now lines) (stages day (age .0) (listed offers) number o) ⌝ }
-    ensures { λ r. ⌜ Wrote count (now (lines .entry)) r (now (lines .exit)) (stages day (age .0) (listed offers) number o) ⌝ }
+    requires { ⌜ (Closes day offers o) × (cents ≡ penaltyOn day o) ⌝ }
+    requires { ⌜ Room count (now lines) (stages day (ageBy (day .setup) (day .today) o) (listed offers) number o) ⌝ }
+    ensures { λ r. ⌜ Wrote count (now (lines .entry)) r (now (lines .exit)) (stages day (ageBy (day .setup) (day .today) o) (listed offers) number o) ⌝ }
 {
     let terms = day.setup.terms;
     let price = day.price;
+    let closed_days = day.setup.closed_days;
+    let age = closed_days.age_at(o.deal.day, day.today);
+    let measures = measures_at(terms, age, o);
     let start = Closing {
         obligation: keep_price(o, terms, age, price),
         count: count,
     };
-    let charged = penalise(start, number, price, day.rate, lines);
-    let noticed = give_notice(charged, number, terms, age, lines);
-    let bought = buy_in(noticed, number, terms, age, offers, lines);
-    compensate(bought, number, terms, age, price, lines)
+    let charged = penalise(start, number, cents, lines);
+    let noticed = give_notice(charged, number, measures.notice, lines);
+    let bought = buy_in(noticed, number, measures.buy_in, offers, lines);
+    compensate(bought, number, measures.compensation, price, lines)
 }
 
-// Closes one obligation. If it is not due, it stays as it is.
-fn close_one(
-    o: Obligation,
-    number: u64,
-    day: DayEnd,
-    offers: Offers,
-    count: usize,
-    lines: &mut [u64],
-) -> Closing
-    requires { ⌜ Closes day offers o ⌝ }
-    requires { ⌜ Room count (now lines) (closedOne day (listed offers) number o) ⌝ }
-    ensures { λ r. ⌜ Wrote count (now (lines .entry)) r (now (lines .exit)) (closedOne day (listed offers) number o) ⌝ }
-{
-    let today = day.today;
-    if o.is_due(today) {
-        let closed_days = day.setup.closed_days;
-        let age = closed_days.age_at(o.deal.day, today);
-        return close_due(o, number, age, day, offers, count, lines);
-    }
-    Closing {
-        obligation: o,
-        count: count,
-    }
-}
-
-// Moves the penalty of an obligation that is due from the account of the seller to that of the buyer.
-fn fine(accounts: &mut [i64], o: Obligation, today: Day, price: u64, rate: u64)
-    requires { ⌜ (Sound o) × (price ≤ mostClosePrice) × (rate ≤ mostRate) ⌝ }
-    requires { ⌜ (Bounded (now accounts)) × (length (now accounts) ≡ memberCount) ⌝ }
-    ensures { λ _. ⌜ now (accounts .exit) ≡ fined today price rate o (now (accounts .entry)) ⌝ }
-{
-    if o.is_due(today) {
-        let cents = amounts::penalty_of(o.parts.outstanding as u64, price, rate);
-        let seller = o.deal.seller as usize;
-        let buyer = o.deal.buyer as usize;
-        netting::transfer(accounts, seller, buyer, cents);
-    }
-}
-
-// Closes a ledger: it closes all obligations, in rising number, and moves the penalty of each. Then it removes the
-// offers. A row is read just before it is stored, so that one array of rows is enough.
+// Closes a ledger: it closes each obligation that is due, in rising number, and moves its penalty between the accounts.
+// Then it removes the offers. A row is read just before it is stored, so that one array of rows is enough.
 pub fn close(l: Ledger, day: DayEnd, lines: &mut [u64]) -> ClosedLedger
     requires { ⌜ Closable day l (now lines) ⌝ }
     ensures { λ r. ⌜ ClosedAs (closedLedger day l) (closeLines day l) (r .ledger) (r .count) (now (lines .entry)) (now (lines .exit)) ⌝ }
@@ -310,11 +282,20 @@ pub fn close(l: Ledger, day: DayEnd, lines: &mut [u64]) -> ClosedLedger
     let mut i = 0;
     while i < n {
         let o = rows[i];
-        fine(&mut accounts, o, day.today, day.price, day.rate);
-        let closed = close_one(o, i as u64, day, offers, count, lines);
-        let row = closed.obligation;
-        rows[i] = row;
-        count = closed.count;
+        if o.is_due(day.today) {
+            let cents = day.penalty_on(o);
+            let sides = o.penalty_sides();
+            netting::transfer(
+                &mut accounts,
+                sides.debtor as usize,
+                sides.creditor as usize,
+                cents,
+            );
+            let closed = close_due(o, i as u64, cents, day, offers, count, lines);
+            let row = closed.obligation;
+            rows[i] = row;
+            count = closed.count;
+        }
         i += 1;
     }
     let none = Offers::none();

@@ -25,8 +25,9 @@ use Rattle.netting.specs.Shares.{floorShare, remainder, centsLeft, comesBefore,
 use Rattle.offers.specs.Rank.{overtakes, insertedBy, rankedBy}
 use Rattle.offers.specs.BuyIn.{offersFor, withGiven, givenBy, given}
 use Rattle.instructions.specs.Match.{fits, firstFit, lowestFit}
-use Rattle.ledger.specs.Obligations.{withGracePrice, cashOf, isDue, moving}
-use Rattle.ledger.specs.Obligations.{settled as settledSoFar}
+use Rattle.ledger.specs.Parts.{settledParts}
+use Rattle.ledger.specs.Obligations.{withGracePrice, cashOf, isDue, moving, lastOf, sides}
+use Rattle.ledger.specs.Lines.{fewestWords}
 use Rattle.ledger.specs.Ledger.{obligationAt, withObligation, fetched}
 use Rattle.reprint.specs.Kept.{keptFrom}
 use Rattle.book.specs.Book.{withDay, withLast, ageOf}
@@ -39,9 +40,9 @@ use Rattle.book.specs.Close.{closeBy, close, closeWords}
 use Rattle.book.specs.Again.{again, againWords}
 use Rattle.book.specs.Month.{monthBook, monthAnswer, month}
 use Rattle.closing.specs.Lines.{penaltyKind, flat, written, linesRead, then}
-use Rattle.closing.specs.Stages.{plainLine, priced, penalised, noticeAt, boughtAll, buyInAt, compensated, compensatedAt}
+use Rattle.closing.specs.Stages.{plainLine, priced, penaltyOn, measuresAt, penalised, noticeAt, boughtAll, buyInAt, compensated, compensatedAt}
 use Rattle.closing.specs.Stages.{boughtFrom as boughtOffer}
-use Rattle.closing.specs.Close.{stages, closedOne, rowsUpTo, linesUpTo, fined, accountsUpTo}
+use Rattle.closing.specs.Close.{course, stages, closedOne, rowsUpTo, linesUpTo, fined, accountsUpTo}
 use Rattle.payments.specs.Month.{overCollected, monthRefusals, paidOut}
 use Rattle.book.specs.declared.Book.{Book}
 use Rattle.book.specs.declared.Done.{Done}
@@ -74,7 +75,7 @@ example-9 = λ i. dayNumber (thirtieth i) ++ dayNumber (thirty-fifth i) ++ dayNu
 
 -- the rules that the rows are worked out by; a proof that unfolds this name unfolds them all
 unfoldable rules : ℕ
-unfolding total tableFrom countBelow rounded value penalty compensation dueFor cash cashOfEach charge tolerance amountsMatch aboveCap floorShare remainder centsLeft comesBefore rank extraCent share shares overtakes insertedBy rankedBy offersFor withGiven givenBy given boughtFrom among clearing clearingWithin ageAt closedDays listed closedRefused risesFrom answer opened openRefusals ageOf enterRefusals obligationOf enteredAlone enteredWith enter deliverRefusals deliverRefusalsOf deliver fetchOutcome offerRefusals offerRefusalsIn offerRefusalsOf offer fits firstFit lowestFit settledSoFar cashOf moving close closeBy closeWords closeRefusals closeRefusalsIn again againWords againRefusals nextAfter nextWithin flat then written stages closedOne rowsUpTo linesUpTo fined accountsUpTo priced penalised noticeAt boughtOffer boughtAll buyInAt compensated compensatedAt isDue paidOut month monthRefusals overCollected fetched linesRead debited credited transferred
+unfolding total tableFrom countBelow rounded value penalty compensation dueFor cash cashOfEach charge tolerance amountsMatch aboveCap floorShare remainder centsLeft comesBefore rank extraCent share shares overtakes insertedBy rankedBy offersFor withGiven givenBy given boughtFrom among clearing clearingWithin ageAt closedDays listed closedRefused risesFrom answer opened openRefusals ageOf enterRefusals obligationOf enteredAlone enteredWith enter deliverRefusals deliverRefusalsOf deliver fetchOutcome offerRefusals offerRefusalsIn offerRefusalsOf offer fits firstFit lowestFit settledParts cashOf moving lastOf sides close closeBy closeWords closeRefusals closeRefusalsIn again againWords againRefusals nextAfter nextWithin flat then written course stages closedOne rowsUpTo linesUpTo fined accountsUpTo priced penaltyOn measuresAt penalised noticeAt boughtOffer boughtAll buyInAt compensated compensatedAt isDue paidOut month monthRefusals overCollected fetched linesRead debited credited transferred
 rules = 0
 
 -- ---- journals of many days
@@ -220,8 +221,8 @@ example-11 = ap₂ reprinted (month-alone closedOnce ∙ ap (λ (n : ℕ). n ∷
 -- X11, Settled examples: how many lines an Again gives, and the cents of the first two lines that then stand in its list
 abbrev pub countAndCents : Book → List ℕ
 countAndCents b =
-    let words = againWords b (replicate 1152 0) in
-    again b 1152 .count ∷ getD words 3 0 ∷ getD words 9 0 ∷ []
+    let words = againWords b (replicate fewestWords 0) in
+    again b fewestWords .count ∷ getD words 3 0 ∷ getD words 9 0 ∷ []
 
 again-there : countAndCents (monthBook closedOnce) ≡ 2 ∷ 200 ∷ 100 ∷ []
 unfolding rules
@@ -241,11 +242,11 @@ example-12 = (refl, refl)
 
 -- X10 and X14, Settled examples: the list of the Close that follows these offers, as it ends
 abbrev pub listAfter : List Call → List ℕ
-listAfter offers = closeWords (bookAfter (begun opening .book) (toBuyIn 100000 ++ offers)) 100000 0 (replicate 1152 0)
+listAfter offers = closeWords (bookAfter (begun opening .book) (toBuyIn 100000 ++ offers)) 100000 0 (replicate fewestWords 0)
 
 -- the same list, from the book at age = grace
 abbrev listFrom : List Call → Book → List ℕ
-listFrom offers b = closeWords (bookAfter b (closeAt 100000 0 ∷ offers)) 100000 0 (replicate 1152 0)
+listFrom offers b = closeWords (bookAfter b (closeAt 100000 0 ∷ offers)) 100000 0 (replicate fewestWords 0)
 
 lines-there : (boughtAt 1 (listFrom auctionOffers (onDay 16 0 (sold 10 1000000))) ≡ 2 ∷ 5 ∷ 2500 ∷ [])
     × (boughtAt 2 (listFrom auctionOffers (onDay 16 0 (sold 10 1000000))) ≡ 1 ∷ 5 ∷ 5000 ∷ [])

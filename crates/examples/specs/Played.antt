@@ -3,6 +3,7 @@ use Prim.Native.Nat.{ℕ, _+_, _*_}
 use mathlib.Core.List.{List, [], _∷_, _++_}
 use lib.ListN.{getD, take, replicate}
 use Rattle.calendar.specs.Closed.{day}
+use Rattle.ledger.specs.Lines.{wordsInLine}
 use Rattle.closing.specs.Lines.{flat, linesRead}
 use Rattle.book.specs.declared.Book.{Book}
 use Rattle.journal.specs.Calls.{Opening, Call, enter, deliver, offer, close, again, month, Event}
@@ -133,7 +134,7 @@ equalOffers = offer 0 1 10 101000 ∷ offer 0 2 12 101000 ∷ []
 
 -- C11, Close: supplier, quantity and cents in a line of the list of a Close, of which the first has number 0
 abbrev pub boughtAt : ℕ → List ℕ → List ℕ
-boughtAt line words = getD words (6 * line + 4) 0 ∷ getD words (6 * line + 2) 0 ∷ getD words (6 * line + 3) 0 ∷ []
+boughtAt line words = getD words (wordsInLine * line + 4) 0 ∷ getD words (wordsInLine * line + 2) 0 ∷ getD words (wordsInLine * line + 3) 0 ∷ []
 
 -- X10 and X14, Settled examples: the offers come on the first day of the buy-in, and then that day's Close
 abbrev pub auctionPlayed : List Call → List ℕ

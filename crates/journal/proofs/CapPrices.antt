@@ -24,10 +24,9 @@ use Rattle.book.specs.Close.{nextDay}
 use Rattle.journal.specs.Calls.{Opening, Call, Event, Run}
 use Rattle.journal.specs.Played.{eventOf, played, callsOf}
 use Rattle.journal.specs.Facts.{Instructed, instructs, Ended, isEnd, priceOf, facts}
-use Rattle.journal.specs.Sums.{closedIn, termsIn, movedOn, todayIn, orElse, instructedIn}
-use Rattle.journal.specs.History.{isGraceDay, gracePriceIn, graceClosedIn}
+use Rattle.journal.specs.Sums.{closedIn, termsIn, movedOn, todayIn, orElse, instructedIn, isGraceDay, gracePriceIn, graceClosedIn}
 use Rattle.journal.specs.Promise.{HasCapPrice, EveryCapPrice}
-use Rattle.journal.proofs.Moves.{held, Agrees}
+use Rattle.journal.proofs.Moves.{Agrees, told-held}
 use Rattle.journal.proofs.Model.{Known, played-known}
 use Rattle.journal.proofs.Does.{Does, no-some}
 use Rattle.journal.proofs.Every.{call-does}
@@ -52,11 +51,11 @@ module _ (o : Opening) (b : Book) (es : List Event) (e : Event) (g : Agrees o b 
   -- the settlement day of an instruction clears
   day-clears : (n : ℕ) (i : Instructed) → instructedIn n es ≡ some i → clearing cs (i .day) ≡ true
   day-clears n i q =
-      let h = held b n i (sym (g .instructed n) ∙ q) in
+      let h = told-held o b es g n i q in
       rw (← ap (λ (s : Setup). s .«closed_days») (g .setup), ← h .same) (g .valid .timely n (h .below) .clears)
 
   -- what the events tell, by whether the call turns the day and whether this is the day at which the age is grace
-  module _ (n : ℕ) (u w : Bool) (t : isEnd (facts e .ends) ≡ u) (d : isGraceDay o (todayIn o es) (instructedIn n es) ≡ w) where
+  module _ (n : ℕ) (u w : Bool) (t : isEnd (facts e .ends) ≡ u) (d : isGraceDay o es (instructedIn n es) ≡ w) where
     today-is : todayIn o (e ∷ es) ≡ pick u (movedOn (nextAfter cs (todayIn o es)) (todayIn o es)) (todayIn o es)
     unfolding todayIn
     today-is = ap (λ (a : Bool). pick a (movedOn (nextAfter cs (todayIn o es)) (todayIn o es)) (todayIn o es)) t
@@ -70,7 +69,7 @@ module _ (o : Opening) (b : Book) (es : List Event) (e : Event) (g : Agrees o b 
     price-is = ap₂ (λ (a c : Bool). pick (a && c) (priceOf (facts e .ends)) (gracePriceIn o n es)) t d
 
   -- where it is not the Close at age = grace, the price stays
-  kept : (n : ℕ) (u w : Bool) → isEnd (facts e .ends) ≡ u → isGraceDay o (todayIn o es) (instructedIn n es) ≡ w → (u && w) ≡ false → HasCapPrice o es n → HasCapPrice o (e ∷ es) n
+  kept : (n : ℕ) (u w : Bool) → isEnd (facts e .ends) ≡ u → isGraceDay o es (instructedIn n es) ≡ w → (u && w) ≡ false → HasCapPrice o es n → HasCapPrice o (e ∷ es) n
   kept n u w t d f c = record {
     closed = closed-is n u w t d ∙ rw (f, c .closed);
     price = rw (price-is n u w t d, f) (c .price);
@@ -112,10 +111,10 @@ module _ (o : Opening) (b : Book) (es : List Event) (e : Event) (g : Agrees o b 
 
       by : (w : Bool) → eqb (age i (todayIn o es)) (termsIn o .grace .0) ≡ w → age i next ≡ age i (todayIn o es) + 1 → HasCapPrice o (e ∷ es) n
       by true d one =
-          let day = ap (isGraceDay o (todayIn o es)) instructed ∙ d in
+          let day = ap (isGraceDay o es) instructed ∙ d in
           record { closed = closed-is n true true t day ∙ or-true (graceClosedIn o n es); price = rw (price-is n true true t day) p }
       by false d one =
-          kept n true false t (ap (isGraceDay o (todayIn o es)) instructed ∙ d) refl (k n i instructed (omega (arith, h, next-age, one, eqb-false (age i (todayIn o es)) (termsIn o .grace .0) d)))
+          kept n true false t (ap (isGraceDay o es) instructed ∙ d) refl (k n i instructed (omega (arith, h, next-age, one, eqb-false (age i (todayIn o es)) (termsIn o .grace .0) d)))
 
   -- either way
   capped-step : {after : Book} → Does b after (facts e) (e .words) → EveryCapPrice o (e ∷ es)
@@ -125,7 +124,7 @@ module _ (o : Opening) (b : Book) (es : List Event) (e : Event) (g : Agrees o b 
       by none q = stays-capped (rw q) (d .due)
       by (some y) q =
           let c = d .closes y q in
-          turns-capped (rw q) (λ n. rw (c .legs)) (rw q (c .price)) (c .next) (c .on)
+          turns-capped (rw q) (λ n. rw (c .legs)) (rw (q, c .price) (c .ends .price-some)) (c .next) (c .on)
 
 -- ---- every run
 abbrev RunCapped : Run → Type 0

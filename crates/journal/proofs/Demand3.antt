@@ -18,7 +18,7 @@ use borrow.Fn.Run.{Over}
 use borrow.Fn.Plain.{Known}
 use Rattle.basics.specs.Lists.{table}
 use Rattle.calendar.specs.declared.Day.{Day}
-use Rattle.netting.specs.Accounts.{debts, balance}
+use Rattle.netting.specs.Accounts.{memberCount, debts, balance}
 use Rattle.book.specs.declared.Book.{Book}
 use Rattle.book.specs.declared.Opened.{Opened}
 use Rattle.book.specs.declared.Entered.{Entered}
@@ -116,12 +116,12 @@ pub record Promise (s : Run) : Type 1 where
   pub status : (n : ℕ) (i : Instructed) → instructedIn n (s .past) ≡ some i → (t : Shown) → StatusCalled (s .book) n t →
       StatusShows (s .opening) (s .past) n i t
   -- J11: Account, called after the list, of each member
-  pub account : (m : ℕ) → m < 32 → (t : Balance) → AccountCalled (s .book) m t → AccountShows (s .past) m t
+  pub account : (m : ℕ) → m < memberCount → (t : Balance) → AccountCalled (s .book) m t → AccountShows (s .past) m t
   -- J12: what the 32 Account calls show adds up to zero
-  pub zero-sum : (t : ℕ → Balance) → ((m : ℕ) → m < 32 → AccountCalled (s .book) m (t m)) →
-      balance (table 32 (λ m. t m .cents)) ≡ pos 0
+  pub zero-sum : (t : ℕ → Balance) → ((m : ℕ) → m < memberCount → AccountCalled (s .book) m (t m)) →
+      balance (table memberCount (λ m. t m .cents)) ≡ pos 0
   -- L3: Look, called after the list, of each member
-  pub look : (m : ℕ) → m < 32 → (t : Looked) → LookCalled (s .book) m t → LookShows (s .opening) (s .past) m t
+  pub look : (m : ℕ) → m < memberCount → (t : Looked) → LookCalled (s .book) m t → LookShows (s .opening) (s .past) m t
   -- J16: Again, called after the list with any lent list, gives what the latest accepted Close gave
   pub again : (ws us : List ℕ) (t : Closed) → AgainCalled (s .book) ws t us → AgainShows (s .past) ws us t
   -- J13 and J14: each accepted Month pays out just what it collected, and each creditor gets its share

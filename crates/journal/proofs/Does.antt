@@ -15,38 +15,42 @@ use Rattle.offers.specs.declared.Offer.{Offer}
 use Rattle.offers.specs.Rank.{ranked}
 use Rattle.offers.specs.Held.{listed}
 use Rattle.instructions.specs.Legs.{entered}
+use Rattle.ledger.specs.Lines.{wordsInLine}
 use Rattle.reprint.specs.Kept.{keptFrom}
 use Rattle.payments.specs.Month.{payoutsOf}
 use Rattle.book.specs.declared.Book.{Book}
 use Rattle.book.specs.Book.{Valid}
-use Rattle.book.specs.Close.{nextDay, linesOf}
+use Rattle.closing.specs.declared.DayEnd.{DayEnd}
+use Rattle.closing.specs.Close.{closeLines}
+use Rattle.book.specs.Close.{nextDay}
+use Rattle.book.proofs.Outcomes.{Ends}
 use Rattle.book.specs.Month.{monthAnswer}
 use Rattle.journal.specs.Calls.{Call}
 use Rattle.journal.specs.Played.{Outcome, eventWith}
-use Rattle.journal.specs.Facts.{LegChange, neither, Instructed, instructs, Ended, isEnd, reported, priceOf, Facts, noFacts, factsOf, facts}
+use Rattle.journal.specs.Facts.{LegChange, neither, Instructed, instructs, Ended, isEnd, reported, Facts, noFacts, factsOf, facts}
 use Rattle.journal.specs.Sums.{isMonth}
 use Rattle.journal.specs.History.{legsAfter}
 use Rattle.journal.proofs.Moves.{Moves}
-use Rattle.journal.proofs.Steps.{plain, moves-nothing}
+use Rattle.journal.proofs.Steps.{moves-within, plain, plain-untold}
 use Rattle.journal.proofs.RecalledLegs.{Proper}
-use Rattle.journal.proofs.RecalledRows.{RowsLeft, rows-same}
+use Rattle.journal.proofs.Rows.{rows-same}
 
 -- what a call leaves of what a book stores: b is the book before it, after the book behind it, f what its event says
 pub record Leaves (b after : Book) (f : Facts) : Type 0 where
   pub close-since : after .day .«close_since» ≡ pick (isEnd (f .ends)) true (pick (isMonth (f .collects)) false (b .day .«close_since»))
   pub has-closed : after .day .«has_closed» ≡ pick (isEnd (f .ends)) true (b .day .«has_closed»)
   pub last : after .last ≡ pick (isEnd (f .ends)) (keptFrom (reported (f .ends))) (b .last)
-  pub rows : RowsLeft b after (isEnd (f .ends)) (priceOf (f .ends)) (f .wishes)
   pub offers : (xs : List Offer) → listed (b .ledger .offers) ≡ ranked xs → listed (after .ledger .offers) ≡ ranked (pick (isEnd (f .ends)) [] (f .offers ++ xs))
   pub legs : entered (after .legs) ≡ legsAfter (f .legs) (entered (b .legs))
   pub proper : Proper (f .legs) (entered (b .legs))
 
--- what is known of a call that ended the day: the lines are those of the rules, the price is at least 1, there is a next
--- day, and no leg was touched
+-- what is known of a call that ended the day: at which end of the book's day it was, that the lines are those of the
+-- rules, that there is a next day, and that no leg was touched
 pub record Closes (b : Book) (f : Facts) (d : Ended) : Type 0 where
-  pub rate : ℕ
-  pub lines : d .lines ≡ linesOf b (d .price) rate
-  pub price : 1 ≤ d .price
+  pub end : DayEnd
+  pub ends : Ends b end
+  pub price : d .price ≡ end .price
+  pub lines : d .lines ≡ closeLines end (b .ledger)
   pub next : Day
   pub on : nextDay b ≡ At next
   pub legs : f .legs ≡ neither
@@ -66,7 +70,7 @@ pub record Does (b after : Book) (f : Facts) (words : List ℕ) : Type 0 where
   pub closes : (d : Ended) → f .ends ≡ some d → Closes b f d
   pub pays : (cs : List ℕ) → f .collects ≡ some cs → Pays b cs words
   -- the lines that it reported are within the list
-  pub fits : 6 * length (reported (f .ends)) ≤ length words
+  pub fits : wordsInLine * length (reported (f .ends)) ≤ length words
 
 -- a call with what came of it
 abbrev pub DoesAs : Book → Call → Outcome → Type 0
@@ -76,6 +80,13 @@ pub no-some : {A : Type 0} {x : A} → none ≡ some x → ⊥
 no-some e = let z : _≡_ {A = ℕ} 0 1 = cc in omega arith
 
 -- ---- other legs and offers, or neither
+-- nothing that a journal sums up moves
+pub moves-nothing : (b after : Book) (c : LegChange) (xs : List Offer) → Valid after → after .setup ≡ b .setup → after .day .today ≡ b .day .today →
+    after .ledger .obligations ≡ b .ledger .obligations → after .ledger .count ≡ b .ledger .count → after .ledger .accounts ≡ b .ledger .accounts →
+    ((n : ℕ) → instructs n c ≡ none) → Moves b after (plain c xs)
+moves-nothing b after c xs v setup today rows count accounts nobody =
+    moves-within b after (plain c xs) refl refl v setup today accounts (rows-same b after (plain c xs) refl rows count (λ n. plain-untold c xs n (nobody n)))
+
 pub does-plain : (b after : Book) (c : LegChange) (xs : List Offer) (words : List ℕ) → Moves b after (plain c xs) → Leaves b after (plain c xs) →
     ((n : ℕ) (i : Instructed) → instructs n c ≡ some i → b .day .today .0 ≤ i .day .0) → Does b after (plain c xs) words
 does-plain b after c xs words m l h = record {
@@ -95,7 +106,6 @@ does-nothing b after words v setup day legs ledger last =
       close-since = rw day;
       has-closed = rw day;
       last = last;
-      rows = rows-same b after (rw ledger) (rw ledger);
       offers = λ xs e. rw ledger e;
       legs = rw legs;
       proper = tt;

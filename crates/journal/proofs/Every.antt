@@ -2,20 +2,22 @@
 use Prim.Native.Nat.{ℕ, _+_, _-_, _≤_, _<_}
 use native.Mathlib.Omega.{arith}
 use mathlib.Core.Path.{_≡_, refl, sym, ap, _∙_}
-use mathlib.Core.Bool.{Bool, true, false, _&&_}
+use mathlib.Core.Bool.{Bool, true, false}
 use mathlib.Core.List.{List, [], _∷_, _++_}
 use mathlib.Core.Option.{none, some}
 use lib.Dec.{eqb}
 use lib.ListN.{length, getD, set}
 use lib.Seq.{getD-take, length-take-le}
-use borrow.Author.Tests.{eq-eqb, ne-eqb, ltb-false, not-false}
+use borrow.Author.Tests.{eq-eqb, ne-eqb, not-false}
 use Rattle.basics.specs.Choice.{pick}
+use Rattle.basics.specs.Lists.{total}
 use Rattle.basics.specs.Refusals.{answer}
-use Rattle.basics.proofs.Cases.{pick-case, and-no, or-false}
+use Rattle.basics.proofs.Cases.{pick-case, or-false}
 use Rattle.basics.proofs.Refusals.{passed, by-number, by-number₂}
 use Rattle.calendar.specs.declared.Day.{Day}
 use Rattle.offers.proofs.Holding.{listed-none, ranked-with}
 use Rattle.instructions.specs.declared.Leg.{Leg}
+use Rattle.instructions.specs.declared.Legs.{Legs}
 use Rattle.instructions.specs.declared.LegState.{LegState}
 use Rattle.instructions.specs.declared.LegState.the-variants.{Waiting, Withdrawn, Matched}
 use Rattle.instructions.specs.declared.Fit.{Fit}
@@ -26,17 +28,12 @@ use Rattle.instructions.proofs.Keeping.{entered-with, entered-state, valid-stat
 use Rattle.instructions.proofs.Matching.{found-below, fits-all}
 use Rattle.ledger.specs.declared.Part.{Part}
 use Rattle.ledger.specs.declared.Part.the-variants as part
-use Rattle.ledger.specs.declared.Parts.{Parts}
-use Rattle.ledger.specs.declared.Obligation.{Obligation}
-use Rattle.ledger.specs.Parts.{partOf, samePart, noParts, moved}
-use Rattle.ledger.specs.Obligations.{withWish, bothWish, moving, wishing, movedByWish}
-use Rattle.ledger.specs.Ledger.{obligationAt, withObligation}
-use Rattle.ledger.proofs.Moving.{part-by, part-moved}
-use Rattle.ledger.proofs.Keeping.{Later, moving-later, wishing-later}
+use Rattle.ledger.specs.Ledger.{mostObligations, withNew}
+use Rattle.ledger.proofs.Moving.{part-by}
+use Rattle.closing.specs.Close.{closeLines}
 use Rattle.closing.proofs.Lines.{lines-back, written-fits}
-use Rattle.refusals.specs.Calls.{badRates, enterRefusals, cancelRefusalsOf, closeRefusalsIn}
+use Rattle.refusals.specs.Calls.{enterRefusals, cancelRefusalsOf}
 use Rattle.refusals.proofs.Offering.{offers-few}
-use Rattle.refusals.proofs.Ending.{close-given}
 use Rattle.payments.specs.Month.{payoutsOf, paidOut}
 use Rattle.book.specs.declared.Book.{Book}
 use Rattle.book.specs.declared.Entered.{Entered}
@@ -44,55 +41,21 @@ use Rattle.book.specs.declared.Done.{Done}
 use Rattle.book.specs.declared.Cancelled.{Cancelled}
 use Rattle.book.specs.declared.Delivered.{Delivered}
 use Rattle.book.specs.declared.Closed.{Closed}
-use Rattle.book.specs.Book.{withLedger, Valid}
+use Rattle.book.specs.Book.{withLegs, withLedger, Valid}
 use Rattle.book.specs.Instructing.{newLeg, obligationOf, enteredAlone, enteredWith, enteredBy, enterRefused, doneRefused}
 use Rattle.book.specs as rules
-use Rattle.book.specs.Close.{linesOf}
 use Rattle.book.specs.Month.{monthBook, monthAnswer}
 use Rattle.book.proofs as laws
 use Rattle.book.proofs.Kept.{Good, good, matched-room}
 use Rattle.book.proofs.Refused.{entered-zero}
 use Rattle.journal.specs.Calls.{Call}
 use Rattle.journal.specs.Played.{ofDone, ofEntered, ofCancelled, ofDelivered, ofClosed, ofPaid, outcome}
-use Rattle.journal.specs.Facts.{enters, withdraws, neither, Instructed, instructedBy, instructs, onlyLegs, movesOne, onlyMoves}
+use Rattle.journal.specs.Facts.{enters, withdraws, neither, Instructed, instructedBy, instructs, onlyLegs, onlyMoves}
 use Rattle.journal.specs.History.{legIntoState}
-use Rattle.journal.proofs.Moves.{instructedFrom, instructedAt, Shift}
-use Rattle.journal.proofs.Steps.{shift-none, moves-nothing, moves-one, moves-more}
+use Rattle.journal.proofs.Rows.{instructedFrom, instructedAt, RowNew, Rows, rows-more}
+use Rattle.journal.proofs.Steps.{moves-within, plain, plain-untold, rows-moved, rows-wished}
 use Rattle.journal.proofs.Turns.{moves-close, moves-month}
-use Rattle.journal.proofs.RecalledRows.{RowsLeft, rows-same, rows-one, rows-wished, rows-more}
-use Rattle.journal.proofs.RecalledCloses.{rows-closed}
-use Rattle.journal.proofs.Does.{Does, DoesAs, no-some, does-plain, does-nothing, refused-does}
-
--- ---- what a wish and a delivery move between the parts
--- a quantity that moves to a part
-shift-moved : (j : Part) (n q : ℕ) (p : Parts) → Shift p (moved j q p) (λ k. movesOne j n q k n)
-shift-moved j n q p k = part-moved k j q p ∙ rw (eq-eqb n n refl) (by (samePart k j) (partOf k p))
-  where
-    by : (t : Bool) (x : ℕ) → pick t (x + q) x ≡ pick (t && true) q 0 + x
-    by true x = omega arith
-    by false x = omega arith
-
--- it is of that obligation alone
-moved-alone : (j : Part) (n q m : ℕ) → (m ≡ n → ⊥) → (k : Part) → movesOne j n q k m ≡ 0
-moved-alone j n q m z k = rw (ne-eqb m n z, and-no (samePart k j)) refl
-
--- a wish that is only recorded moves nothing
-wish-parts : (o : Obligation) (member : ℕ) → withWish member o .parts ≡ o .parts
-unfolding withWish
-wish-parts o member = pick-case (λ (p : Obligation). p .parts ≡ o .parts) (eqb (o .deal .seller) member) _ _ (λ e. refl) (λ e. refl)
-
-wish-shift : (o : Obligation) (n member : ℕ) → Shift (o .parts) (wishing member o .parts) (λ k. movesOne part.Cancelled n (movedByWish member o) k n)
-unfolding wishing movedByWish moving
-wish-shift o n member = by (bothWish (withWish member o)) (wish-parts o member)
-  where
-    none : (t : Bool) → _≡_ {A = ℕ} (pick t 0 0) 0
-    none true = refl
-    none false = refl
-
-    by : (t : Bool) → withWish member o .parts ≡ o .parts →
-        Shift (o .parts) (pick t (moving part.Cancelled (withWish member o .parts .outstanding) (withWish member o)) (withWish member o) .parts) (λ k. movesOne part.Cancelled n (pick t (o .parts .outstanding) 0) k n)
-    by true e = rw e (shift-moved part.Cancelled n (o .parts .outstanding) (o .parts))
-    by false e = rw e (λ k. rw (none (samePart k part.Cancelled && eqb n n)) (shift-none (o .parts) k))
+use Rattle.journal.proofs.Does.{Does, DoesAs, no-some, moves-nothing, does-plain, does-nothing, refused-does}
 
 module _ (b : Book) (v : Valid b) where
   -- ---- the legs
@@ -118,7 +81,6 @@ module _ (b : Book) (v : Valid b) where
         close-since = refl;
         has-closed = refl;
         last = refl;
-        rows = rows-same b _ refl refl;
         offers = λ xs q. q;
         legs = entered-into leg Withdrawn h;
         proper = omega (arith, entered-length);
@@ -137,9 +99,31 @@ module _ (b : Book) (v : Valid b) where
       by true e = rw e
       by false e = rw e
 
-  fresh-parts : (new old : Leg) → Shift noParts (obligationOf new old .parts) (λ k. 0)
-  unfolding obligationOf
-  fresh-parts new old k = part-by k (λ j. 0) (new .quantity) ∙ omega (arith, part-by k (λ j. 0) 0)
+  -- the obligation of a leg and one that fits it is a new row
+  made-row : (new old : Leg) → fits old new ≡ true → RowNew (plain (enters (b .legs .count) (b .ledger .count + 1) new) []) (b .ledger .count) (obligationOf new old)
+  unfolding obligationOf total
+  made-row new old f = record {
+    instructed = rw (eq-eqb (b .ledger .count + 1) (b .ledger .count + 1) refl) (ap some (sym (made-instructed new old f)));
+    moves = λ k. refl;
+    wishes = λ m. refl;
+    parts = λ k. part-by k (λ j. 0) (new .quantity);
+    price = refl;
+    wish = λ m. no-wish (eqb _ m) (eqb _ m);
+  }
+    where
+      no-wish : (t u : Bool) → pick t false (pick u false false) ≡ false
+      no-wish true u = refl
+      no-wish false true = refl
+      no-wish false false = refl
+
+  made-rows : (new old : Leg) (legs : Legs) → b .ledger .count < mostObligations → fits old new ≡ true →
+      Rows b (withLegs legs (withLedger (withNew (obligationOf new old) (b .ledger)) b)) (plain (enters (b .legs .count) (b .ledger .count + 1) new) [])
+  made-rows new old legs room f =
+      rows-more b v legs _ (obligationOf new old) refl room (made-row new old f)
+      (λ k z. plain-untold _ [] k (rw (ne-eqb (b .ledger .count + 1) (k + 1) (λ q. z (next k q)))))
+    where
+      next : (k : ℕ) → b .ledger .count + 1 ≡ k + 1 → k ≡ b .ledger .count
+      next k q = omega arith
 
   -- an instruction is for its own day
   instructed-day : (new : Leg) → instructedBy new .day ≡ new .day
@@ -163,7 +147,6 @@ module _ (b : Book) (v : Valid b) where
         close-since = refl;
         has-closed = refl;
         last = refl;
-        rows = rows-same b _ refl refl;
         offers = λ xs p. p;
         legs = rw e (entered-with (b .legs) (v .legs) new (g .room));
         proper = (sym entered-length, fresh, rw e refl);
@@ -177,11 +160,10 @@ module _ (b : Book) (v : Valid b) where
       let room = matched-room b v new k g e .1 in
       let legs = enteredWith b new k .book .legs in
       does-plain b _ (enters (b .legs .count) (n + 1) new) [] []
-      (moves-more b v legs (obligationOf new old) room (fresh-parts new old) (b .legs .count) new (made-instructed new old (f .1)) w) (record {
+      (moves-within b _ (plain (enters (b .legs .count) (n + 1) new) []) refl refl w refl refl refl (made-rows new old legs room (f .1))) (record {
         close-since = refl;
         has-closed = refl;
         last = refl;
-        rows = rows-more b v legs (obligationOf new old) room refl refl refl;
         offers = λ xs p. p;
         legs = rw (e, number)
             (entered-with (withState k (Matched n) (b .legs)) w' (inState (Matched n) new) (g .room)
@@ -199,14 +181,12 @@ module _ (b : Book) (v : Valid b) where
       (λ e w. rw (entered-zero b new (lowestFit (b .legs) new)) (entered-does new (lowestFit (b .legs) new) (good b v new e) refl refl w))
 
   -- ---- Deliver and Cancel
-  -- a call that changes one obligation: what of it moves to each part, and whose wish it is
-  row-does : (n : ℕ) (r : Obligation) (h : n < b .ledger .count) (f : Part → ℕ → ℕ) (w : ℕ → ℕ → Bool) →
-      Later (obligationAt (b .ledger) n) r → Shift (obligationAt (b .ledger) n .parts) (r .parts) (λ k. f k n) → ((m : ℕ) → (m ≡ n → ⊥) → (k : Part) → f k m ≡ 0) →
-      RowsLeft b (withLedger (withObligation n r (b .ledger)) b) false 0 w → Valid (withLedger (withObligation n r (b .ledger)) b) →
-      Does b (withLedger (withObligation n r (b .ledger)) b) (onlyMoves f w) []
-  row-does n r h f w later shift only rows v' = record {
-    moves = moves-one b v n r h f w later shift only v';
-    leaves = record { close-since = refl; has-closed = refl; last = refl; rows = rows; offers = λ xs p. p; legs = refl; proper = tt };
+  -- a call that changes some rows: what of them moves to each part, and whose wish it is
+  rows-does : (after : Book) (f : Part → ℕ → ℕ) (w : ℕ → ℕ → Bool) → Valid after → after .setup ≡ b .setup → after .day ≡ b .day → after .legs ≡ b .legs → after .last ≡ b .last →
+      after .ledger .offers ≡ b .ledger .offers → after .ledger .accounts ≡ b .ledger .accounts → Rows b after (onlyMoves f w) → Does b after (onlyMoves f w) []
+  rows-does after f w v' setup day legs last offers accounts rows = record {
+    moves = moves-within b after (onlyMoves f w) refl refl v' setup (rw day) accounts rows;
+    leaves = record { close-since = rw day; has-closed = rw day; last = last; offers = λ xs p. rw offers p; legs = rw legs; proper = tt };
     due = λ k i e. absurd (no-some e);
     closes = λ d e. absurd (no-some e);
     pays = λ cs e. absurd (no-some e);
@@ -214,26 +194,17 @@ module _ (b : Book) (v : Valid b) where
   }
 
   deliver-does : (n q : ℕ) → Valid (outcome b (Call.deliver n q) .book) → DoesAs b (Call.deliver n q) (outcome b (Call.deliver n q))
-  unfolding moving
   deliver-does n q =
       laws.Outcomes.deliver-case b (λ (x : Delivered). Valid (x .book) → DoesAs b (Call.deliver n q) (ofDelivered x)) n q
       (λ i z w. refused-does b v (Call.deliver n q) i (0 ∷ []) [] z)
-      (λ h e w.
-      let o = obligationAt (b .ledger) n in
-      let r = moving part.Delivered q o in
-      row-does n r h (movesOne part.Delivered n q) (λ k m. false) (moving-later part.Delivered o q) (shift-moved part.Delivered n q (o .parts)) (moved-alone part.Delivered n q)
-      (rows-one b v n r h (λ i m. false) refl (λ m. refl) (λ i m z. refl)) w)
+      (λ h e w. rows-does _ _ _ w refl refl refl refl refl refl (rows-moved b v part.Delivered n q h))
 
   cancel-does : (n member : ℕ) → Valid (outcome b (Call.cancel n member) .book) → DoesAs b (Call.cancel n member) (outcome b (Call.cancel n member))
   unfolding cancelRefusalsOf
   cancel-does n member =
       laws.Outcomes.cancel-case b (λ (x : Cancelled). Valid (x .book) → DoesAs b (Call.cancel n member) (ofCancelled x)) n member
       (λ i z w. refused-does b v (Call.cancel n member) i (0 ∷ []) [] z)
-      (λ h e w.
-      let o = obligationAt (b .ledger) n in
-      let q = movedByWish member o in
-      row-does n (wishing member o) h (movesOne part.Cancelled n q) (λ k m. eqb n k && eqb member m) (wishing-later o member) (wish-shift o n member) (moved-alone part.Cancelled n q)
-      (rows-wished b v n member h (not-false _ (or-false (passed 14 _ _ e refl .0) .0))) w)
+      (λ h e w. rows-does _ _ _ w refl refl refl refl refl refl (rows-wished b v n member h (not-false _ (or-false (passed 14 _ _ e refl .0) .0))))
 
   -- ---- Offer
   offer-does : (n supplier q price : ℕ) → Valid (outcome b (Call.offer n supplier q price) .book) → DoesAs b (Call.offer n supplier q price) (outcome b (Call.offer n supplier q price))
@@ -245,41 +216,26 @@ module _ (b : Book) (v : Valid b) where
         close-since = refl;
         has-closed = refl;
         last = refl;
-        rows = rows-same b _ refl refl;
         offers = λ xs p. ranked-with (b .ledger .offers) _ (offers-few _ _ _ _ _ _ f) (v .ledger .offers .size) xs p;
         legs = refl;
         proper = tt;
       }) (λ k i e. absurd (no-some e)))
 
   -- ---- Close
-  -- a Close has a price of at least 1
-  some-price : (price rate words : ℕ) → answer (closeRefusalsIn price rate words) ≡ 0 → 1 ≤ price
-  unfolding closeRefusalsIn
-  some-price price rate words e =
-      ltb-false price 1 (or-false (or-false (passed 3 (badRates price rate) _ e refl .0) .0) .0)
-
   close-does : (price rate : ℕ) (ws : List ℕ) → DoesAs b (Call.close price rate ws) (outcome b (Call.close price rate ws))
   close-does price rate ws =
-      laws.Outcomes.close-case b (λ (x : Closed) (us : List ℕ). DoesAs b (Call.close price rate ws) (ofClosed x us)) price rate ws
+      laws.Outcomes.close-case b v (λ (x : Closed) (us : List ℕ). DoesAs b (Call.close price rate ws) (ofClosed x us)) price rate ws
       (λ i z. refused-does b v (Call.close price rate ws) i (0 ∷ []) ws z)
-      (λ next q e.
-      let g = close-given price rate (length ws) e in
-      rw (lines-back (linesOf b price rate) ws) (record {
-        moves = moves-close b v price rate (g .price-most) (g .rate-most) next q;
-        leaves = record {
-          close-since = refl;
-          has-closed = refl;
-          last = refl;
-          rows = rows-closed b v price rate (g .price-most) (g .rate-most) next;
-          offers = λ xs p. listed-none;
-          legs = refl;
-          proper = tt;
-        };
+      (λ d e s next q long.
+      let ls = closeLines d (b .ledger) in
+      rw (lines-back ls ws, ← s) (record {
+        moves = moves-close b v d e next q;
+        leaves = record { close-since = refl; has-closed = refl; last = refl; offers = λ xs p. listed-none; legs = refl; proper = tt };
         due = λ n i e. absurd (no-some e);
-        closes = λ d s. let same : record { price = price; lines = linesOf b price rate } ≡ d = cc in
-            rw (← same) (record { rate = rate; lines = refl; price = some-price price rate (length ws) e; next = next; on = q; legs = refl });
+        closes = λ x p. let same : record { price = d .price; lines = ls } ≡ x = cc in
+            rw (← same) (record { end = d; ends = e; price = refl; lines = refl; next = next; on = q; legs = refl });
         pays = λ cs e. absurd (no-some e);
-        fits = written-fits (linesOf b price rate) ws;
+        fits = written-fits ls ws;
       }))
 
   -- ---- Again
@@ -298,7 +254,7 @@ module _ (b : Book) (v : Valid b) where
       (λ z. refused-does b v (Call.month cs ps) (monthAnswer b cs (length ps)) [] ps z)
       (λ e. record {
         moves = moves-month b v cs;
-        leaves = record { close-since = refl; has-closed = refl; last = refl; rows = rows-same b (monthBook b) refl refl; offers = λ xs p. p; legs = refl; proper = tt };
+        leaves = record { close-since = refl; has-closed = refl; last = refl; offers = λ xs p. p; legs = refl; proper = tt };
         due = λ n i e. absurd (no-some e);
         closes = λ d e. absurd (no-some e);
         pays = λ ds s. let same : cs ≡ ds = cc in rw (← same) (record { places = length ps; accepted = e; payouts = refl });

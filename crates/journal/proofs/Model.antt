@@ -1,7 +1,7 @@
 -- The model theorem: whatever calls are played from an Open, the book agrees with the events.
 use Prim.Native.Nat.{ℕ}
 use native.Mathlib.Omega.{arith}
-use mathlib.Core.Path.{_≡_, refl, sym, ap}
+use mathlib.Core.Path.{_≡_, refl, ap}
 use mathlib.Core.Bool.{Bool, true, false, false≢true}
 use mathlib.Core.List.{List, [], _∷_}
 use lib.Dec.{eqb, ltb}
@@ -12,7 +12,6 @@ use Rattle.basics.specs.Refusals.{answer}
 use Rattle.basics.proofs.Refusals.{passed}
 use Rattle.calendar.specs.declared.Day.{Day}
 use Rattle.calendar.specs.Closed.{day, closedDays, closedRefused, listed}
-use Rattle.ledger.proofs.Moving.{part-by}
 use Rattle.refusals.specs.Calls.{badFirst}
 use Rattle.book.specs.Book.{Valid}
 use Rattle.book.specs.Open.{opened, openRefusals, openRefused, termsOf, freshBook, refusedBook}
@@ -20,7 +19,7 @@ use Rattle.book.proofs.FreshBooks.{fresh-valid, refused-valid, first-good}
 use Rattle.book.proofs.Paid.{zero-at}
 use Rattle.journal.specs.Calls.{Opening, Call, Run}
 use Rattle.journal.specs.Played.{outcome, eventOf, begun, step, played, callsOf}
-use Rattle.journal.specs.Sums.{setupIn, firstDay, todayIn, instructedIn, partIn, accountIn, lastClosedIn}
+use Rattle.journal.specs.Sums.{setupIn, firstDay, todayIn, instructedIn, partIn, wishedIn, gracePriceIn, accountIn, lastClosedIn}
 use Rattle.journal.specs.Promise.{EveryMonth}
 use Rattle.journal.proofs.Moves.{Agrees, agrees-step}
 use Rattle.journal.proofs.Every.{call-does}
@@ -35,7 +34,7 @@ pub record Known (s : Run) : Type 0 where
 -- ---- the start
 fresh-agrees : (o : Opening) (first : Day) (ds : List ℕ) (terms : ℕ) → Valid (freshBook first (closedDays ds) terms) →
     record { «closed_days» = closedDays ds; terms = termsOf terms } ≡ setupIn o → first ≡ firstDay o → Agrees o (freshBook first (closedDays ds) terms) []
-unfolding todayIn instructedIn partIn accountIn lastClosedIn total
+unfolding todayIn instructedIn partIn gracePriceIn wishedIn accountIn lastClosedIn total
 fresh-agrees o first ds terms v s f =
     let nobody : (n : ℕ) → ltb n 0 ≡ false = λ n. le-ltb n 0 (omega arith) in
     record {
@@ -43,8 +42,10 @@ fresh-agrees o first ds terms v s f =
       setup = s;
       today = f;
       instructed = λ n. rw (nobody n);
-      parts = λ n k. rw (nobody n) (sym (part-by k (λ j. 0) 0));
-      accounts = λ m. sym (zero-at 32 m);
+      parts = λ n k. rw (nobody n);
+      prices = λ n s. rw (nobody n);
+      wishes = λ n m. rw (nobody n);
+      accounts = λ m. zero-at 32 m;
       last = λ n e. absurd (false≢true e);
     }
 

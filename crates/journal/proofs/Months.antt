@@ -1,7 +1,7 @@
 -- Every accepted Month pays out just what it collected, each creditor its share. A Month that is given what each member
 -- owes ends as an empty one does.
 use Prim.Native.Nat.{ℕ}
-use mathlib.Core.Path.{_≡_, refl, ap, _∙_}
+use mathlib.Core.Path.{_≡_, refl, sym, ap, _∙_}
 use mathlib.Core.List.{List, map}
 use mathlib.Core.Option.{some}
 use lib.IntN.{ℤ, pos}
@@ -31,7 +31,7 @@ module _ (o : Opening) (b : Book) (es : List Event) (g : Agrees o b es) where
   numbers-agree : (f : ℤ → ℕ) → f (pos 0) ≡ 0 → table 32 (λ m. f (accountIn m es)) ≡ map f (b .ledger .accounts)
   numbers-agree f z =
       of-accounts f z (b .ledger .accounts) (table 32 (λ m. f (accountIn m es))) (g .valid .ledger .accounts .size) (table-length 32 (λ m. f (accountIn m es)))
-      (λ m h. table-at 32 (λ k. f (accountIn k es)) m 0 h ∙ ap f (g .accounts m))
+      (λ m h. table-at 32 (λ k. f (accountIn k es)) m 0 h ∙ ap f (sym (g .accounts m)))
 
   claims-agree : claimsIn es ≡ claims (b .ledger .accounts)
   claims-agree = numbers-agree claim refl

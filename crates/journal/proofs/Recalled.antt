@@ -18,10 +18,11 @@ use Rattle.ledger.specs.Ledger.{obligationAt}
 use Rattle.reprint.specs.Kept.{keptFrom}
 use Rattle.book.specs.Book.{ageOf}
 use Rattle.journal.specs.Calls.{Run}
-use Rattle.journal.specs.Sums.{todayIn, instructedIn}
-use Rattle.journal.specs.History.{closeSinceIn, latestClose, wasClose, latestLines, gracePriceIn, offersIn, wishedIn, legsIn, legIn, waitingIn}
+use Rattle.journal.specs.Sums.{todayIn, instructedIn, wishedIn, gracePriceIn}
+use Rattle.journal.specs.History.{closeSinceIn, latestClose, wasClose, latestLines, offersIn, legsIn, legIn, waitingIn}
 use Rattle.journal.specs.Promise.{EveryCapPrice}
-use Rattle.journal.proofs.Moves.{instructedAt, Agrees}
+use Rattle.journal.proofs.Moves.{Agrees}
+use Rattle.journal.proofs.Rows.{instructedAt}
 use Rattle.journal.proofs.CapPrices.{known-capped}
 use Rattle.journal.proofs.Model.{Known}
 use Rattle.journal.proofs.Demand3.{Ran}
@@ -73,17 +74,17 @@ told s g k p =
       close-since = k .close-since;
       has-closed = k .has-closed;
       last = k .last;
-      grace-price = λ n h left. rw (there n h) at (k .prices n (λ z. left));
+      grace-price = λ n h left. rw (there n h) at (g .prices n (λ z. left));
       cap-price = λ n h left old.
-          let price = rw (there n h) at (k .prices n (λ z. left)) in
-          let instructed : instructedIn n (s .past) ≡ some (instructedAt (obligationAt l n)) = rw (g .instructed n, there n h) in
+          let price = rw (there n h) at (g .prices n (λ z. left)) in
+          let instructed : instructedIn n (s .past) ≡ some (instructedAt (obligationAt l n)) = rw (← g .instructed n, there n h) in
           omega (arith, price, p n (instructedAt (obligationAt l n)) instructed (rw (g .setup, g .today) at old) .price);
       offers = k .offers;
       in-order = rw (k .offers) (ranked-in-order (offersIn (s .past)));
-      seller-wish = λ n h. rw (there n h, eq-eqb (obligationAt l n .deal .seller) (obligationAt l n .deal .seller) refl) at (k .wishes n (obligationAt l n .deal .seller));
+      seller-wish = λ n h. rw (there n h, eq-eqb (obligationAt l n .deal .seller) (obligationAt l n .deal .seller) refl) at (g .wishes n (obligationAt l n .deal .seller));
       buyer-wish = λ n h.
           rw (there n h, ne-eqb (obligationAt l n .deal .seller) (obligationAt l n .deal .buyer) (v .ledger .sound n h .deal .parties-apart), eq-eqb (obligationAt l n .deal .buyer) (obligationAt l n .deal .buyer) refl)
-          at (k .wishes n (obligationAt l n .deal .buyer));
+          at (g .wishes n (obligationAt l n .deal .buyer));
       legs = k .legs;
       leg = λ n h. sym (k .leg n) ∙ rw (row n h, size, lt-ltb n (s .book .legs .count) h);
       no-leg = λ n h. (

@@ -16,25 +16,22 @@ use Rattle.basics.specs.Lists.Every.{nobody, also}
 use Rattle.basics.proofs.Cases.{pick-case, and-no, last-or-below}
 use Rattle.basics.proofs.Everywhere.{every-map, every-append}
 use Rattle.basics.proofs.Sums.{total-append}
-use Rattle.calendar.specs.Days.{ageAt}
 use Rattle.offers.specs.declared.Offer.{Offer}
 use Rattle.offers.specs.declared.Given.{Given}
 use Rattle.offers.specs.BuyIn.{given}
-use Rattle.ledger.specs.declared.Terms.{Terms}
 use Rattle.ledger.specs.declared.Part.{Part}
 use Rattle.ledger.specs.declared.Part.the-variants.{BoughtIn, Compensated}
 use Rattle.ledger.specs.Parts.{partOf, samePart}
 use Rattle.ledger.proofs.Moving.{part-moved}
 use Rattle.ledger.specs.declared.Obligation.{Obligation}
-use Rattle.ledger.specs.Obligations.{noObligation, isDue, inBuyIn, moving}
+use Rattle.ledger.specs.Obligations.{noObligation, ageBy, isDue, moving}
 use Rattle.closing.specs.declared.DayEnd.{DayEnd}
 use Rattle.closing.specs.declared.Line.{Line}
 use Rattle.closing.specs.Lines.{penaltyKind, noticeKind, Made, nothing, then}
-use Rattle.closing.specs.Stages.{plainLine, priced, penalised, noticeAt, boughtFrom, boughtAll, buyInAt, compensated, compensatedAt}
-use Rattle.closing.specs.Close.{stages, closedOne, closedAt, linesUpTo}
-use Rattle.closing.proofs.Parts.{priced-parts}
+use Rattle.closing.specs.Stages.{plainLine, priced, penaltyOn, penalised, noticeAt, boughtFrom, boughtAll, buyInAt, compensated, compensatedAt}
+use Rattle.closing.specs.Close.{course, stages, closedOne, closedAt, linesUpTo}
+use Rattle.closing.proofs.Parts.{priced-parts, measures}
 use Rattle.journal.specs.Facts.{partOfKind, isPart, quantityTo}
-use Rattle.calendar.specs.Closed.{listed as closedListed}
 use Rattle.journal.specs.Promise.{Purchase, purchasesIn}
 
 -- ---- the lines of one obligation
@@ -131,10 +128,10 @@ module _ (n : ℕ) where
   unfolding then
   part-then o m f a b = record { moved = moved-then o m f (a .moved) (b .moved); behind = every-append (a .behind) (b .behind) }
 
-  notice-part : (terms : Terms) (age : ℕ) (o : Obligation) → Behaves n o (noticeAt terms age n o)
+  notice-part : (comes : Bool) (o : Obligation) → Behaves n o (noticeAt comes n o)
   unfolding noticeAt total quantityTo
-  notice-part terms age o =
-      pick-case (Behaves n o) (eqb age (terms .notice .0)) _ _
+  notice-part comes o =
+      pick-case (Behaves n o) comes _ _
       (λ e. record { moved = moved-none o o (plainLine noticeKind n (o .parts .outstanding) 0 ∷ []) refl (λ k. refl); behind = also (record { own = refl; no-penalty = refl }) nobody })
       (λ e. part-nothing o)
 
@@ -148,10 +145,10 @@ module _ (n : ℕ) where
   bought-part (g ∷ gs) o =
       part-then o (boughtFrom n g o) (boughtAll n gs) (bought-from-part g o) (bought-part gs (boughtFrom n g o .obligation))
 
-  buy-in-part : (terms : Terms) (age : ℕ) (offers : List Offer) (o : Obligation) → Behaves n o (buyInAt terms age offers n o)
+  buy-in-part : (comes : Bool) (offers : List Offer) (o : Obligation) → Behaves n o (buyInAt comes offers n o)
   unfolding buyInAt
-  buy-in-part terms age offers o =
-      pick-case (Behaves n o) (inBuyIn terms age) _ _
+  buy-in-part comes offers o =
+      pick-case (Behaves n o) comes _ _
       (λ e. bought-part (given n (o .parts .outstanding) offers) o)
       (λ e. part-nothing o)
 
@@ -162,10 +159,9 @@ module _ (n : ℕ) where
       (λ e. part-nothing o)
       (λ e. record { moved = moved-line o Compensated _ refl refl; behind = also (record { own = refl; no-penalty = refl }) nobody })
 
-  compensated-at-part : (terms : Terms) (age price : ℕ) (o : Obligation) → Behaves n o (compensatedAt terms age price n o)
+  compensated-at-part : (comes : Bool) (price : ℕ) (o : Obligation) → Behaves n o (compensatedAt comes price n o)
   unfolding compensatedAt
-  compensated-at-part terms age price o =
-      pick-case (Behaves n o) (eqb age (terms .last .0)) _ _ (λ e. compensated-part price o) (λ e. part-nothing o)
+  compensated-at-part comes price o = pick-case (Behaves n o) comes _ _ (λ e. compensated-part price o) (λ e. part-nothing o)
 
 -- ---- all parts of a Close together
 -- what stays with each part that comes after the penalty
@@ -175,22 +171,23 @@ Stays n P = (x : Made) (f : Obligation → Made) → P x → Behaves n (x .oblig
 module _ (d : DayEnd) (offers : List Offer) (n : ℕ) (o : Obligation) where
   -- the first part, at an age
   abbrev pub fine : ℕ → Made
-  fine age = penalised n (d .price) (d .rate) (priced (d .setup .terms) age (d .price) o)
+  fine age = penalised n (penaltyOn d o) (priced (d .setup .terms) age (d .price) o)
 
   -- what holds of the penalty and stays holds of all parts
   stages-by : (P : Made → Type 0) → Stays n P → (age : ℕ) → P (fine age) → P (stages d age offers n o)
-  unfolding stages
+  unfolding stages course
   stages-by P more age p =
-      let noticed : Made = then (fine age) (noticeAt (d .setup .terms) age n) in
-      let bought : Made = then noticed (buyInAt (d .setup .terms) age offers n) in
-      let q = more (fine age) (noticeAt (d .setup .terms) age n) p (notice-part n (d .setup .terms) age (fine age .obligation)) in
-      let r = more noticed (buyInAt (d .setup .terms) age offers n) q (buy-in-part n (d .setup .terms) age offers (noticed .obligation)) in
-      more bought (compensatedAt (d .setup .terms) age (d .price) n) r (compensated-at-part n (d .setup .terms) age (d .price) (bought .obligation))
+      let m = measures d age offers n o in
+      let noticed : Made = then (fine age) (noticeAt (m .notice) n) in
+      let bought : Made = then noticed (buyInAt (m .«buy_in») offers n) in
+      let q = more (fine age) (noticeAt (m .notice) n) p (notice-part n (m .notice) (fine age .obligation)) in
+      let r = more noticed (buyInAt (m .«buy_in») offers n) q (buy-in-part n (m .«buy_in») offers (noticed .obligation)) in
+      more bought (compensatedAt (m .compensation) (d .price) n) r (compensated-at-part n (m .compensation) (d .price) (bought .obligation))
 
   -- a fact of a Close, by whether the obligation is due
   pub closed-by : (P : Bool → Made → Type 0) → Stays n (P true) → ((age : ℕ) → P true (fine age)) → P false (nothing o) → P (isDue (d .today) o) (closedOne d offers n o)
   unfolding closedOne
-  closed-by P more p q = by (isDue (d .today) o) (ageAt (closedListed (d .setup .«closed_days»)) (o .deal .day) (d .today) .0)
+  closed-by P more p q = by (isDue (d .today) o) (ageBy (d .setup) (d .today) o)
     where
       by : (t : Bool) (age : ℕ) → P t (pick t (stages d age offers n o) (nothing o))
       by true age = stages-by (P true) more age (p age)

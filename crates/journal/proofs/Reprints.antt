@@ -9,6 +9,7 @@ use lib.Dec.{eqb}
 use lib.ListN.{length, getD, take}
 use Rattle.basics.specs.Choice.{pick}
 use Rattle.basics.proofs.Refusals.{refused-with, done-by}
+use Rattle.ledger.specs.Lines.{wordsInLine}
 use Rattle.closing.specs.declared.Line.{Line}
 use Rattle.closing.specs.Lines.{written, linesRead}
 use Rattle.closing.proofs.Lines.{written-front, written-behind, read-length, read-words}
@@ -19,8 +20,8 @@ use Rattle.refusals.proofs.Ending.{again-short, again-before, again-after}
 use Rattle.book.specs.declared.Book.{Book}
 use Rattle.book.specs.declared.Closed.{Closed}
 use Rattle.book.specs.Close.{closeRefused}
-use Rattle.book.specs.Again.{againNumber, againDone, again, againWords}
-use Rattle.journal.specs.Calls.{Opening, Call, Event}
+use Rattle.book.specs.Again.{againAnswer, againDone, again, againWords}
+use Rattle.journal.specs.Calls.{Call, Event}
 use Rattle.journal.specs.Facts.{Ended, isEnd, reported, noFacts, factsOf, facts}
 use Rattle.journal.specs.History.{latestClose, wasClose, latestLines}
 use Rattle.journal.specs.Promise.{AgainRefused, AgainGives, AgainShows}
@@ -66,9 +67,9 @@ latest-read es e q = by (facts e .ends) refl (latest-ends es e q)
     by (some d) f z = ends-read e d f
 
 -- ---- what Again shows
-module _ {o : Opening} (b : Book) (es : List Event) (k : Recalls o b es) (ws us : List ℕ) (t : Closed) (told : (t ≡ again b (length ws)) × (us ≡ againWords b ws)) where
+module _ (b : Book) (es : List Event) (k : Recalls b es) (ws us : List ℕ) (t : Closed) (told : (t ≡ again b (length ws)) × (us ≡ againWords b ws)) where
   -- an Again that is refused by n
-  refused-shows : (n : ℕ) → againNumber b (length ws) ≡ n → (n ≡ 0 → ⊥) → AgainRefused n ws us t
+  refused-shows : (n : ℕ) → againAnswer b (length ws) ≡ n → (n ≡ 0 → ⊥) → AgainRefused n ws us t
   unfolding again againWords
   refused-shows n e z =
       let answer = told .0 ∙ sym (refused-with n _ (againDone b) (closeRefused b) e z) in
@@ -79,7 +80,7 @@ module _ {o : Opening} (b : Book) (es : List Event) (k : Recalls o b es) (ws us 
       }
 
   -- an Again that is done, after the latest Close e
-  done-shows : (e : Event) → latestClose es ≡ some e → againNumber b (length ws) ≡ 0 → AgainGives e ws us t
+  done-shows : (e : Event) → latestClose es ≡ some e → againAnswer b (length ws) ≡ 0 → AgainGives e ws us t
   unfolding again againWords
   done-shows e q z =
       let n = getD (e .results) 0 0 in
@@ -91,11 +92,11 @@ module _ {o : Opening} (b : Book) (es : List Event) (k : Recalls o b es) (ws us 
       told .1 ∙ sym (done-by _ (written (linesKept (b .last)) ws) (λ m. ws) z) ∙ ap (λ (x : LastClose). written (linesKept x) ws) kept
       ∙ ap (λ (x : List Line). written x ws) (kept-back ls) in
       let count : t .count ≡ length ls = ap (λ (r : Closed). r .count) answer ∙ ap (λ (x : LastClose). x .count) kept in
-      let long : 6 * n ≤ length (e .words) = omega (arith, k .fits e q, ap (λ (x : List Line). length x) (latest-read es e q), size) in
+      let long : wordsInLine * n ≤ length (e .words) = omega (arith, k .fits e q, ap (λ (x : List Line). length x) (latest-read es e q), size) in
       record {
         accepted = ap (λ (r : Closed). r .answer) answer;
         count = count ∙ size;
-        lines = rw (count, words) (written-front ls ws ∙ read-words n (e .words) long ∙ ap (λ (m : ℕ). take (6 * m) (e .words)) (sym size));
+        lines = rw (count, words) (written-front ls ws ∙ read-words n (e .words) long ∙ ap (λ (m : ℕ). take (wordsInLine * m) (e .words)) (sym size));
         behind = rw (count, words) (written-behind ls ws);
       }
 

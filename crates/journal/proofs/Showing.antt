@@ -5,7 +5,6 @@ use mathlib.Core.Path.{_≡_, refl, sym, ap, _∙_}
 use mathlib.Core.Bool.{true, false≢true}
 use mathlib.Core.List.{List, [], _∷_}
 use mathlib.Core.Option.{some}
-use lib.Dec.{ltb}
 use lib.IntN.{pos}
 use lib.ListN.{getD}
 use borrow.Author.Tests.{ltb-true, lt-ltb, le-ltb, eqb-true, eq-eqb}
@@ -16,10 +15,9 @@ use Rattle.basics.proofs.Tables.{is-table}
 use Rattle.basics.proofs.Refusals.{pass, all-passed, done-by}
 use Rattle.calendar.specs.declared.Day.{Day}
 use Rattle.netting.specs.Accounts.{balance}
-use Rattle.ledger.specs.declared.Parts.{Parts}
 use Rattle.ledger.specs.Ledger.{obligationAt, fetched}
 use Rattle.ledger.proofs.Valid.{below-found}
-use Rattle.refusals.specs.Members.{noMember}
+use Rattle.netting.specs.Accounts.{noMember}
 use Rattle.refusals.proofs.Named.{found-done}
 use Rattle.book.specs.declared.Book.{Book}
 use Rattle.book.specs.declared.Shown.{Shown}
@@ -30,17 +28,16 @@ use Rattle.journal.specs.Calls.{Opening, Event}
 use Rattle.journal.specs.Facts.{Instructed}
 use Rattle.journal.specs.Sums.{instructedIn}
 use Rattle.journal.specs.Promise.{StatusShows, AccountShows, IsLate, LateShown, LookShows}
-use Rattle.journal.proofs.Moves.{instructedAt, heldParts, held, Agrees, parts-are, sum-is, outstanding-is}
+use Rattle.journal.proofs.Rows.{instructedAt}
+use Rattle.journal.proofs.Moves.{Agrees, parts-are, sum-is, told-held, outstanding-is}
 use Rattle.journal.proofs.Demand3.{StatusCalled, AccountCalled, LookCalled}
 
 module _ (o : Opening) (b : Book) (es : List Event) (g : Agrees o b es) where
   pub status-shows : (n : ℕ) (i : Instructed) → instructedIn n es ≡ some i → (t : Shown) → t ≡ status b n → StatusShows o es n i t
   unfolding status
   status-shows n i e t q =
-      let h = held b n i (sym (g .instructed n) ∙ e) in
-      let there : ltb n (b .ledger .count) ≡ true = lt-ltb n (b .ledger .count) (h .below) in
+      let h = told-held o b es g n i e in
       let p = obligationAt (b .ledger) n in
-      let parts : heldParts b n ≡ p .parts = rw there in
       let shown : t ≡ record { answer = 0; quantity = p .deal .quantity; parts = p .parts; book = b } =
       q ∙ sym (found-done [] (λ o. []) (statusDone b) (statusRefused b) refl all-passed (fetched (b .ledger) n) p (below-found (b .ledger) n (h .below)) all-passed) in
       let qu = ap (λ (d : Instructed). d .quantity) (h .same) in
@@ -49,7 +46,7 @@ module _ (o : Opening) (b : Book) (es : List Event) (g : Agrees o b es) where
         quantity = qu;
         part = λ k. sym (parts-are o b es g n (h .below) k);
         whole = sym (sum-is o b es g n (h .below) ∙ qu);
-        last-day = λ z. ap (λ (x : Parts). x .outstanding) (sym parts) ∙ g .last n z .1;
+        last-day = λ z. g .last n z .1;
       })
 
   pub account-shows : (m : ℕ) → m < 32 → (t : Balance) → t ≡ account b m → AccountShows es m t
@@ -57,14 +54,14 @@ module _ (o : Opening) (b : Book) (es : List Event) (g : Agrees o b es) where
   account-shows m h t q =
       let zero : answer (refuse 1 (noMember m) ∷ []) ≡ 0 = pass 1 [] (le-ltb 31 m (omega arith)) ∙ all-passed in
       let shown : t ≡ record { answer = 0; cents = getD (b .ledger .accounts) m (pos 0); book = b } = q ∙ sym (done-by (refuse 1 (noMember m) ∷ []) _ (accountRefused b) zero) in
-      rw shown (record { accepted = refl; cents = sym (g .accounts m) })
+      rw shown (record { accepted = refl; cents = g .accounts m })
 
   -- the accounts, shown one by one
   pub all-shown : (t : ℕ → Balance) → ((m : ℕ) → m < 32 → t m ≡ account b m) → balance (table 32 (λ m. t m .cents)) ≡ pos 0
   all-shown t q =
       ap balance
       (sym (is-table 32 (λ m. t m .cents) (b .ledger .accounts) (pos 0) (g .valid .ledger .accounts .size)
-      (λ m h. sym (g .accounts m) ∙ sym (account-shows m h (t m) (q m h) .cents))))
+      (λ m h. g .accounts m ∙ sym (account-shows m h (t m) (q m h) .cents))))
       ∙ g .valid .ledger .accounts .even
 
   -- an obligation that is late in the book is late by the events, and the other way round
@@ -73,7 +70,7 @@ module _ (o : Opening) (b : Book) (es : List Event) (g : Agrees o b es) where
   unfolding isLate
   late-told m n h e =
       let p = obligationAt (b .ledger) n in
-      let instructed : instructedIn n es ≡ some (instructedAt p) = rw (g .instructed n, lt-ltb n (b .ledger .count) h) in
+      let instructed : instructedIn n es ≡ some (instructedAt p) = rw (← g .instructed n, lt-ltb n (b .ledger .count) h) in
       let first = and-true _ _ e in
       let rest = and-true _ _ (first .1) in (
         instructedAt p,
@@ -88,7 +85,7 @@ module _ (o : Opening) (b : Book) (es : List Event) (g : Agrees o b es) where
   told-late : (m n : ℕ) (i : Instructed) → instructedIn n es ≡ some i → IsLate o es m n i → isLate (b .day .today) m (obligationAt (b .ledger) n) ≡ true
   unfolding isLate
   told-late m n i e l =
-      let h = held b n i (sym (g .instructed n) ∙ e) in
+      let h = told-held o b es g n i e in
       let p = obligationAt (b .ledger) n in
       let seller : p .deal .seller ≡ m = ap (λ (d : Instructed). d .seller) (h .same) ∙ l .seller in
       let day : p .deal .day .0 < b .day .today .0 =
@@ -98,7 +95,7 @@ module _ (o : Opening) (b : Book) (es : List Event) (g : Agrees o b es) where
 
   late-shown : {m k : ℕ} → LooksAt b m k → LateShown o es m k
   late-shown {m} (LooksAt.none f) = LateShown.none-late (λ n i e l.
-      false≢true (sym (f n (held b n i (sym (g .instructed n) ∙ e) .below)) ∙ told-late m n i e l))
+      false≢true (sym (f n (told-held o b es g n i e .below)) ∙ told-late m n i e l))
   late-shown {m} (LooksAt.some n h e) = let w = late-told m n h e in LateShown.one-late n (w .0) (w .1) (w .2)
 
   pub look-shows : (m : ℕ) → m < 32 → (t : Looked) → Looks b m t → LookShows o es m t

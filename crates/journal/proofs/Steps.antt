@@ -1,178 +1,161 @@
--- What each kind of change moves: nothing, one obligation changed, one obligation more.
-use Prim.Native.Nat.{ℕ, _+_, _≤_, _<_}
+-- What a call moves that neither ends the day nor is a Month, by what it does to the rows, and the rows of such calls.
+use Prim.Native.Nat.{ℕ, _+_, _<_}
 use native.Mathlib.Omega.{arith}
-use native.Mathlib.Nat.{zero-add}
 use mathlib.Core.Path.{_≡_, refl, sym, ap, _∙_}
-use mathlib.Core.Bool.{Bool, true, false, false≢true}
+use mathlib.Core.Bool.{Bool, true, false, _&&_, _||_, false≢true}
 use mathlib.Core.List.{List, []}
-use mathlib.Core.Option.{Option, none, some}
-use lib.Dec.{ltb, eqb}
+use mathlib.Core.Option.{Option, none}
+use lib.Dec.{eqb}
 use lib.IntN.{ℤ, pos, _+ℤ_, +ℤ-idr}
-use lib.ListN.{length, getD, set}
-use lib.Seq.{getD-set-same, getD-set-other}
-use borrow.Author.Tests.{ltb-true, ltb-false, lt-ltb, le-ltb, eqb-true, eqb-false, eq-eqb, ne-eqb}
+use lib.ListN.{getD}
+use borrow.Author.Tests.{eqb-true, eq-eqb, ne-eqb}
 use Rattle.basics.specs.Choice.{pick}
 use Rattle.basics.specs.Lists.{total}
+use Rattle.basics.proofs.Cases.{pick-case, and-no}
 use Rattle.ledger.specs.declared.Part.{Part}
+use Rattle.ledger.specs.declared.Part.the-variants.{Cancelled}
 use Rattle.ledger.specs.declared.Parts.{Parts}
+use Rattle.ledger.specs.declared.Sides.{Sides}
+use Rattle.ledger.specs.declared.Stage.{Stage}
 use Rattle.ledger.specs.declared.Obligation.{Obligation}
-use Rattle.ledger.specs.Parts.{partOf, noParts}
-use Rattle.ledger.specs.Obligations.{noObligation}
-use Rattle.ledger.specs.Ledger.{obligationAt, withObligation, withNew}
-use Rattle.ledger.proofs.Keeping.{Later, later-same}
+use Rattle.ledger.specs.Parts.{partOf, samePart, moved}
+use Rattle.ledger.specs.Obligations.{withWishes, isParty, withWish, bothWish, moving, wishing, movedByWish}
+use Rattle.ledger.specs.Ledger.{obligationAt, withObligation}
+use Rattle.ledger.proofs.Moving.{part-moved}
+use Rattle.ledger.proofs.Keeping.{moving-later, wishing-later}
 use Rattle.offers.specs.declared.Offer.{Offer}
-use Rattle.instructions.specs.declared.Leg.{Leg}
-use Rattle.instructions.specs.declared.Legs.{Legs}
 use Rattle.book.specs.declared.Book.{Book}
-use Rattle.book.specs.Book.{withLegs, withLedger, Valid}
-use Rattle.journal.specs.Facts.{LegChange, enters, Instructed, instructedBy, instructs, Facts, onlyLegs, onlyMoves}
-use Rattle.journal.specs.Sums.{orElse, penaltiesOf}
-use Rattle.journal.proofs.Moves.{instructedFrom, instructedAt, heldInstructed, heldParts, Shift, Moves}
+use Rattle.book.specs.Book.{withLedger, Valid}
+use Rattle.journal.specs.Facts.{LegChange, instructs, Facts, movesOne, onlyMoves}
+use Rattle.journal.specs.Sums.{penaltiesOf}
+use Rattle.journal.proofs.Rows.{wishOf, Shift, shift-none, Untold, Rows, rows-one}
+use Rattle.journal.proofs.Moves.{heldSides, Moves}
 
 -- nothing is added to an account by no lines
-no-lines : (m : ℕ) (instructed : ℕ → Option Instructed) (z : ℤ) → z ≡ z +ℤ penaltiesOf m instructed []
+no-lines : (m : ℕ) (sidesAt : ℕ → Option Sides) (z : ℤ) → z ≡ z +ℤ penaltiesOf m sidesAt []
 unfolding penaltiesOf
-no-lines m instructed z = sym (+ℤ-idr z)
+no-lines m sidesAt z = sym (+ℤ-idr z)
 
--- nothing moves between the parts
-pub shift-none : (p : Parts) → Shift p p (λ k. 0)
-shift-none p k = sym (zero-add (partOf k p))
+-- what moves by what is done to the rows, where the accounts stay
+pub moves-within : (b after : Book) (f : Facts) → f .ends ≡ none → f .collects ≡ none → Valid after → after .setup ≡ b .setup →
+    after .day .today ≡ b .day .today → after .ledger .accounts ≡ b .ledger .accounts → Rows b after f → Moves b after f
+moves-within b after f e c v setup today accounts rows = record {
+  valid = v;
+  setup = setup;
+  today = rw e today;
+  rows = rows;
+  accounts = λ m. rw (e, c) (ap (λ (xs : List ℤ). getD xs m (pos 0)) accounts ∙ no-lines m (heldSides b) (getD (b .ledger .accounts) m (pos 0)));
+  last = λ t. absurd (turns (rw e at t));
+}
+  where
+    turns : false ≡ true → ⊥
+    turns z = false≢true z
 
--- what moves where an obligation is there, and nothing where it is not
-pub shift-held : (t : Bool) (p q : Parts) (amounts : Part → ℕ) → (t ≡ true → Shift p q amounts) → (t ≡ false → (k : Part) → amounts k ≡ 0) →
-    Shift (pick t p noParts) (pick t q noParts) amounts
-shift-held true p q amounts f g = f refl
-shift-held false p q amounts f g = λ k. rw (g refl k) (shift-none noParts k)
-
--- ---- other legs and offers: nothing that a journal sums up moves
+-- ---- other legs and offers
 -- the facts of a call that changes legs or offers, or neither
 abbrev pub plain : LegChange → List Offer → Facts
 plain c xs = record { legs = c; moves = λ k n. 0; wishes = λ n m. false; offers = xs; ends = none; collects = none }
 
-pub moves-nothing : (b after : Book) (c : LegChange) (xs : List Offer) → Valid after → after .setup ≡ b .setup → after .day .today ≡ b .day .today →
-    after .ledger .obligations ≡ b .ledger .obligations → after .ledger .count ≡ b .ledger .count → after .ledger .accounts ≡ b .ledger .accounts →
-    ((n : ℕ) → instructs n c ≡ none) → Moves b after (plain c xs)
+pub plain-untold : (c : LegChange) (xs : List Offer) (n : ℕ) → instructs n c ≡ none → Untold (plain c xs) n
 unfolding total
-moves-nothing b after c xs v setup today rows count accounts nobody =
-    let parts : (n : ℕ) → heldParts after n ≡ heldParts b n = λ n. rw (rows, count) in
-    record {
-      valid = v;
-      setup = setup;
-      today = today;
-      instructed = λ n. rw (nobody n, rows, count);
-      parts = λ n. rw (parts n) (shift-none (heldParts b n));
-      kept = omega (arith, count);
-      accounts = λ m. ap (λ (xs : List ℤ). getD xs m (pos 0)) accounts ∙ no-lines m (heldInstructed b) (getD (b .ledger .accounts) m (pos 0));
-      less = λ n h. omega (arith, ap (λ (p : Parts). p .outstanding) (parts n));
-      last = λ t. absurd (false≢true t);
-    }
+plain-untold c xs n e = record { instructed = e; moves = λ k. refl; wishes = λ m. refl }
 
--- ---- one obligation changed: what of it moves to each part
-module _ (b : Book) (v : Valid b) (n : ℕ) (r : Obligation) (h : n < b .ledger .count) (f : Part → ℕ → ℕ) (w : ℕ → ℕ → Bool)
-    (l : Later (obligationAt (b .ledger) n) r) (t : Shift (obligationAt (b .ledger) n .parts) (r .parts) (λ k. f k n))
-    (only : (m : ℕ) → (m ≡ n → ⊥) → (k : Part) → f k m ≡ 0) where
-  abbrev after : Book
-  after = withLedger (withObligation n r (b .ledger)) b
+-- ---- one obligation changed
+-- a quantity that moves to a part
+shift-moved : (j : Part) (n q : ℕ) (p : Parts) → Shift p (moved j q p) (λ k. movesOne j n q k n)
+shift-moved j n q p k = part-moved k j q p ∙ rw (eq-eqb n n refl) (by (samePart k j) (partOf k p))
+  where
+    by : (t : Bool) (x : ℕ) → pick t (x + q) x ≡ pick (t && true) q 0 + x
+    by true x = omega arith
+    by false x = omega arith
 
-  record Each (m : ℕ) (p : Obligation) : Type 0 where
-    later : Later (obligationAt (b .ledger) m) p
-    shift : Shift (obligationAt (b .ledger) m .parts) (p .parts) (λ k. f k m)
+-- what moves to a part of one obligation is of that obligation alone, and so is the wish
+pub moved-untold : (j : Part) (n q : ℕ) (w : ℕ → ℕ → Bool) (k : ℕ) → (k ≡ n → ⊥) → ((m : ℕ) → w k m ≡ false) → Untold (onlyMoves (movesOne j n q) w) k
+unfolding total
+moved-untold j n q w k z quiet = record {
+  instructed = refl;
+  moves = λ i. rw (ne-eqb k n z, and-no (samePart i j)) refl;
+  wishes = quiet;
+}
 
-  each : (m : ℕ) → Each m (obligationAt (after .ledger) m)
-  each m = by (eqb m n) refl
-    where
-      size : n < length (b .ledger .obligations)
-      size = omega (arith, h, v .ledger .few, v .ledger .size)
+-- a quantity moves to a part of one obligation
+pub rows-moved : (b : Book) → Valid b → (j : Part) (n q : ℕ) → n < b .ledger .count →
+    Rows b (withLedger (withObligation n (moving j q (obligationAt (b .ledger) n)) (b .ledger)) b) (onlyMoves (movesOne j n q) (λ k m. false))
+unfolding moving total
+rows-moved b v j n q h =
+    let o = obligationAt (b .ledger) n in
+    rows-one b v _ n _ refl h (record {
+      later = moving-later j o q;
+      instructed = refl;
+      shift = λ k. shift-moved j n q (o .parts) k ∙ omega arith;
+      price = λ left. refl;
+      wish = λ m. refl;
+    }) (λ k z. moved-untold j n q (λ i m. false) k z (λ m. refl))
 
-      by : (u : Bool) → eqb m n ≡ u → Each m (obligationAt (after .ledger) m)
-      by true e =
-          rw (eqb-true m n e, getD-set-same (b .ledger .obligations) n r noObligation size) (record { later = l; shift = t })
-      by false e =
-          let q = eqb-false m n e in
-          rw (getD-set-other (b .ledger .obligations) n m r noObligation q)
-          (record { later = later-same (obligationAt (b .ledger) m); shift = λ k. rw (only m q k) (shift-none (obligationAt (b .ledger) m .parts) k) })
+-- ---- a wish
+-- a party's wish is recorded, and no other
+wish-recorded : (o : Obligation) (member : ℕ) → isParty o member ≡ true → (o .deal .seller ≡ o .deal .buyer → ⊥) → (m : ℕ) → wishOf m (withWish member o) ≡ (eqb member m || wishOf m o)
+unfolding isParty withWish
+wish-recorded o member party apart m = by (eqb (o .deal .seller) member) refl party
+  where
+    by : (t : Bool) → eqb (o .deal .seller) member ≡ t → (t || eqb (o .deal .buyer) member) ≡ true →
+        wishOf m (pick t (withWishes (record { seller = true; buyer = o .wishes .buyer }) o) (withWishes (record { seller = o .wishes .seller; buyer = true }) o)) ≡ (eqb member m || wishOf m o)
+    by true e q = rw (← eqb-true (o .deal .seller) member e) (seller (eqb (o .deal .seller) m))
+      where
+        seller : (u : Bool) → pick u true (pick (eqb (o .deal .buyer) m) (o .wishes .buyer) false) ≡ (u || pick u (o .wishes .seller) (pick (eqb (o .deal .buyer) m) (o .wishes .buyer) false))
+        seller true = refl
+        seller false = refl
+    by false e q = rw (← eqb-true (o .deal .buyer) member q) (buyer (eqb (o .deal .seller) m) (eqb (o .deal .buyer) m) refl refl)
+      where
+        buyer : (u w : Bool) → eqb (o .deal .seller) m ≡ u → eqb (o .deal .buyer) m ≡ w →
+            pick u (o .wishes .seller) (pick w true false) ≡ (w || pick u (o .wishes .seller) (pick w (o .wishes .buyer) false))
+        buyer true true x y = absurd (apart (eqb-true (o .deal .seller) m x ∙ sym (eqb-true (o .deal .buyer) m y)))
+        buyer true false x y = refl
+        buyer false true x y = refl
+        buyer false false x y = refl
 
-  same-instructed : (m : ℕ) → instructedAt (obligationAt (after .ledger) m) ≡ instructedAt (obligationAt (b .ledger) m)
-  same-instructed m =
-      let e = each m .later in
-      ap instructedFrom (e .deal)
+-- a wish changes neither the parts nor the stage
+record Recorded (o r : Obligation) : Type 0 where
+  parts : r .parts ≡ o .parts
+  stage : r .stage ≡ o .stage
 
-  none-there : (m : ℕ) → ltb m (b .ledger .count) ≡ false → (k : Part) → f k m ≡ 0
-  none-there m e = only m (λ z. apart z (ltb-false m (b .ledger .count) e))
-    where
-      apart : m ≡ n → b .ledger .count ≤ m → ⊥
-      apart z w = omega arith
+recorded : (o : Obligation) (member : ℕ) → Recorded o (withWish member o)
+unfolding withWish
+recorded o member = pick-case (Recorded o) (eqb (o .deal .seller) member) _ _ (λ e. record { parts = refl; stage = refl }) (λ e. record { parts = refl; stage = refl })
 
-  pub moves-one : Valid after → Moves b after (onlyMoves f w)
-  unfolding total
-  moves-one v' = record {
-    valid = v';
-    setup = refl;
-    today = refl;
-    instructed = λ m. ap (λ (d : Instructed). pick (ltb m (b .ledger .count)) (some d) none) (same-instructed m);
-    parts = λ m k. shift-held (ltb m (b .ledger .count)) _ _ (λ j. f j m) (λ e. each m .shift) (none-there m) k ∙ omega arith;
-    kept = omega arith;
-    accounts = λ m. no-lines m (heldInstructed b) (getD (b .ledger .accounts) m (pos 0));
-    less = λ m lt. rw (lt-ltb m (b .ledger .count) lt) (each m .later .less);
-    last = λ t. absurd (false≢true t);
-  }
+-- what the second wish cancels is no wish, and it leaves the stage
+cancelled-same : (o : Obligation) (member : ℕ) → ((m : ℕ) → wishOf m (wishing member o) ≡ wishOf m (withWish member o)) × (wishing member o .stage ≡ o .stage)
+unfolding wishing moving
+cancelled-same o member =
+    pick-case (λ (r : Obligation). ((m : ℕ) → wishOf m r ≡ wishOf m (withWish member o)) × (r .stage ≡ o .stage)) (bothWish (withWish member o)) _ _
+    (λ e. (λ m. refl, recorded o member .stage))
+    (λ e. (λ m. refl, recorded o member .stage))
 
--- ---- one obligation more
-module _ (b : Book) (v : Valid b) (legs : Legs) (r : Obligation) (room : b .ledger .count < 64)
-    (fresh : Shift noParts (r .parts) (λ k. 0)) (leg : ℕ) (new : Leg) (same : instructedAt r ≡ instructedBy new) where
-  abbrev more : Book
-  more = withLegs legs (withLedger (withNew r (b .ledger)) b)
+wish-shift : (o : Obligation) (n member : ℕ) → Shift (o .parts) (wishing member o .parts) (λ k. movesOne Cancelled n (movedByWish member o) k n)
+unfolding wishing movedByWish moving
+wish-shift o n member = by (bothWish (withWish member o)) (recorded o member .parts)
+  where
+    nothing : (t : Bool) → _≡_ {A = ℕ} (pick t 0 0) 0
+    nothing true = refl
+    nothing false = refl
 
-  abbrev count : ℕ
-  count = b .ledger .count
+    by : (t : Bool) → withWish member o .parts ≡ o .parts →
+        Shift (o .parts) (pick t (moving Cancelled (withWish member o .parts .outstanding) (withWish member o)) (withWish member o) .parts) (λ k. movesOne Cancelled n (pick t (o .parts .outstanding) 0) k n)
+    by true e = rw e (shift-moved Cancelled n (o .parts .outstanding) (o .parts))
+    by false e = rw e (λ k. rw (nothing (samePart k Cancelled && eqb n n)) (shift-none (o .parts) k))
 
-  size-more : count < length (b .ledger .obligations)
-  size-more = omega (arith, room, v .ledger .size)
-
-  -- by whether a number is the new one, one before it or one behind it
-  abbrev New : ℕ → Option Instructed → Type 0
-  New k instructed =
-      (heldInstructed more k ≡ orElse instructed (heldInstructed b k)) × (Shift (heldParts b k) (heldParts more k) (λ j. 0))
-      × (k < count → heldParts more k .outstanding ≤ heldParts b k .outstanding)
-
-  new-at : (k : ℕ) → New k (pick (eqb (count + 1) (k + 1)) (some (instructedAt r)) none)
-  new-at k = by (eqb k count) (ltb k count) refl refl
-    where
-      by : (u w : Bool) → eqb k count ≡ u → ltb k count ≡ w → New k (pick (eqb (count + 1) (k + 1)) (some (instructedAt r)) none)
-      by true w e f =
-          let q = eqb-true k count e in
-          let a : eqb (count + 1) (k + 1) ≡ true = eq-eqb (count + 1) (k + 1) (omega arith) in
-          let c : ltb k (count + 1) ≡ true = lt-ltb k (count + 1) (omega arith) in
-          let g : ltb k count ≡ false = le-ltb k count (omega arith) in
-          let s : getD (set (b .ledger .obligations) count r) k noObligation ≡ r = rw q (getD-set-same (b .ledger .obligations) count r noObligation size-more) in
-          rw (a, c, g, s) (refl, fresh, λ lt. absurd (omega arith))
-      by false true e f =
-          let q = eqb-false k count e in
-          let lt = ltb-true k count f in
-          let a : eqb (count + 1) (k + 1) ≡ false = ne-eqb (count + 1) (k + 1) (λ z. q (omega arith)) in
-          let c : ltb k (count + 1) ≡ true = lt-ltb k (count + 1) (omega arith) in
-          rw (a, c, f, getD-set-other (b .ledger .obligations) count k r noObligation q)
-          (refl, shift-none (obligationAt (b .ledger) k .parts), λ z. omega arith)
-      by false false e f =
-          let q = eqb-false k count e in
-          let ge = ltb-false k count f in
-          let a : eqb (count + 1) (k + 1) ≡ false = ne-eqb (count + 1) (k + 1) (λ z. q (omega arith)) in
-          let c : ltb k (count + 1) ≡ false = le-ltb k (count + 1) (above ge q) in
-          rw (a, c, f) (refl, shift-none noParts, λ z. omega arith)
-        where
-          above : count ≤ k → (k ≡ count → ⊥) → count + 1 ≤ k
-          above x y = omega arith
-
-  pub moves-more : Valid more → Moves b more (onlyLegs (enters leg (count + 1) new))
-  unfolding total
-  moves-more w = record {
-    valid = w;
-    setup = refl;
-    today = refl;
-    instructed = λ k. rw (← same) (new-at k .0);
-    parts = λ k. new-at k .1;
-    kept = omega arith;
-    accounts = λ m. no-lines m (heldInstructed b) (getD (b .ledger .accounts) m (pos 0));
-    less = λ k lt. new-at k .2 lt;
-    last = λ t. absurd (false≢true t);
-  }
+-- a party's wish, whether it cancels or not
+pub rows-wished : (b : Book) → Valid b → (n member : ℕ) → n < b .ledger .count → isParty (obligationAt (b .ledger) n) member ≡ true →
+    Rows b (withLedger (withObligation n (wishing member (obligationAt (b .ledger) n)) (b .ledger)) b)
+    (onlyMoves (movesOne Cancelled n (movedByWish member (obligationAt (b .ledger) n))) (λ k m. eqb n k && eqb member m))
+unfolding total
+rows-wished b v n member h party =
+    let o = obligationAt (b .ledger) n in
+    let same = cancelled-same o member in
+    rows-one b v _ n _ refl h (record {
+      later = wishing-later o member;
+      instructed = refl;
+      shift = λ k. wish-shift o n member k ∙ omega arith;
+      price = λ left. ap (λ (s : Stage). s .«grace_price») (same .1);
+      wish = λ m. same .0 m ∙ rw (eq-eqb n n refl) (wish-recorded o member party (v .ledger .sound n h .deal .parties-apart) m);
+    }) (λ k z. moved-untold Cancelled n _ _ k z (λ m. rw (ne-eqb n k (λ y. z (sym y)))))

@@ -1,14 +1,11 @@
--- What a book stores, said by its Open and the events alone. Events stand the latest first.
+-- What a book stores beside its obligations, said by the events alone. Events stand the latest first.
 use Prim.Native.Nat.{ℕ, _-_}
-use mathlib.Core.Bool.{Bool, true, false, _&&_, _||_, not}
+use mathlib.Core.Bool.{Bool, true, false, _&&_, not}
 use mathlib.Core.List.{List, [], _∷_, _++_}
 use mathlib.Core.Option.{Option, none, some}
 use lib.Dec.{eqb}
 use lib.ListN.{getD, set}
 use Rattle.basics.specs.Choice.{pick}
-use Rattle.calendar.specs.declared.Day.{Day}
-use Rattle.calendar.specs.Closed.{listed}
-use Rattle.calendar.specs.Days.{ageAt}
 use Rattle.offers.specs.declared.Offer.{Offer}
 use Rattle.instructions.specs.declared.Leg.{Leg}
 use Rattle.instructions.specs.declared.LegState.{LegState}
@@ -18,9 +15,9 @@ use Rattle.instructions.specs.declared.Fit.the-variants.{With, Nobody}
 use Rattle.instructions.specs.Legs.{noLeg, inState}
 use Rattle.instructions.specs.Match.{firstFit}
 use Rattle.closing.specs.declared.Line.{Line}
-use Rattle.journal.specs.Calls.{Opening, Event}
-use Rattle.journal.specs.Facts.{LegChange, enters, withdraws, neither, Instructed, isEnd, reported, priceOf, facts}
-use Rattle.journal.specs.Sums.{closedIn, termsIn, todayIn, orElse, instructedIn, isMonth}
+use Rattle.journal.specs.Calls.{Event}
+use Rattle.journal.specs.Facts.{LegChange, enters, withdraws, neither, isEnd, reported, facts}
+use Rattle.journal.specs.Sums.{orElse, isMonth}
 
 -- ---- Close
 -- R21, Refusals: whether a Close was accepted since the start or since the last accepted Month
@@ -43,33 +40,10 @@ abbrev pub latestLines : Option Event → List Line
 latestLines none = []
 latestLines (some e) = reported (facts e .ends)
 
--- B8, Buy-in: whether today is a day on which the age of what was instructed is grace
-abbrev pub isGraceDay : Opening → Day → Option Instructed → Bool
-isGraceDay o today none = false
-isGraceDay o today (some i) = eqb (ageAt (listed (closedIn o)) (i .day) today .0) (termsIn o .grace .0)
-
--- B8 and B9, Buy-in: the price for the cap of an obligation is that of the accepted Close at age = grace, which is the age
--- on the day that this Close ends. Before such a Close it is 0.
-unfoldable pub gracePriceIn : Opening → ℕ → List Event → ℕ
-gracePriceIn o n [] = 0
-gracePriceIn o n (e ∷ es) =
-    pick (isEnd (facts e .ends) && isGraceDay o (todayIn o es) (instructedIn n es)) (priceOf (facts e .ends)) (gracePriceIn o n es)
-
--- B9, Buy-in: whether a Close was accepted at age = grace of an obligation
-unfoldable pub graceClosedIn : Opening → ℕ → List Event → Bool
-graceClosedIn o n [] = false
-graceClosedIn o n (e ∷ es) = graceClosedIn o n es || (isEnd (facts e .ends) && isGraceDay o (todayIn o es) (instructedIn n es))
-
 -- B5, Buy-in: the offers since the last accepted Close, the latest first. An accepted Close ends them.
 unfoldable pub offersIn : List Event → List Offer
 offersIn [] = []
 offersIn (e ∷ es) = pick (isEnd (facts e .ends)) [] (facts e .offers ++ offersIn es)
-
--- ---- Cancel
--- K1 and K4, Cancel: whether an accepted Cancel of obligation n by member m is among the events
-unfoldable pub wishedIn : ℕ → ℕ → List Event → Bool
-wishedIn n m [] = false
-wishedIn n m (e ∷ es) = facts e .wishes n m || wishedIn n m es
 
 -- ---- Enter and Withdraw
 -- these legs with leg k in another state

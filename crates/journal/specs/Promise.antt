@@ -18,6 +18,8 @@ use Rattle.ledger.specs.declared.Part.{Part}
 use Rattle.ledger.specs.declared.Part.the-variants.{BoughtIn}
 use Rattle.ledger.specs.Parts.{partOf, everyPart}
 use Rattle.ledger.specs.Obligations.{inBuyIn}
+use Rattle.netting.specs.Accounts.{memberCount}
+use Rattle.ledger.specs.Lines.{wordsInLine, fewestWords}
 use Rattle.closing.specs.declared.Line.{Line}
 use Rattle.book.specs.declared.Closed.{Closed}
 use Rattle.book.specs.declared.Shown.{Shown}
@@ -25,8 +27,8 @@ use Rattle.book.specs.declared.Balance.{Balance}
 use Rattle.book.specs.declared.Looked.{Looked}
 use Rattle.journal.specs.Calls.{Opening, Event}
 use Rattle.journal.specs.Facts.{Instructed, partOfKind, isPart, isEnd, reported, facts}
-use Rattle.journal.specs.Sums.{termsIn, todayIn, instructedIn, partIn, outstandingIn, ageIn, accountIn, claimsIn, collectedIn, lastClosedIn}
-use Rattle.journal.specs.History.{latestClose, gracePriceIn, graceClosedIn, offersIn}
+use Rattle.journal.specs.Sums.{termsIn, todayIn, instructedIn, partIn, outstandingIn, ageIn, accountIn, claimsIn, collectedIn, gracePriceIn, graceClosedIn, lastIn, lastClosedIn}
+use Rattle.journal.specs.History.{latestClose, offersIn}
 
 -- J10 and J15, Whole journals: what a Status after the list shows of an obligation of the list. It is accepted and shows
 -- the instructed quantity and the sum of each part. Together with what it shows as outstanding the sums are the quantity. Once a
@@ -71,16 +73,16 @@ pub record AgainRefused (n : ℕ) (ws us : List ℕ) (t : Closed) : Type 0 where
 pub record AgainGives (e : Event) (ws us : List ℕ) (t : Closed) : Type 0 where
   pub accepted : t .answer ≡ 0
   pub count : t .count ≡ getD (e .results) 0 0
-  pub lines : take (6 * t .count) us ≡ take (6 * t .count) (e .words)
-  pub behind : drop (6 * t .count) us ≡ drop (6 * t .count) ws
+  pub lines : take (wordsInLine * t .count) us ≡ take (wordsInLine * t .count) (e .words)
+  pub behind : drop (wordsInLine * t .count) us ≡ drop (wordsInLine * t .count) ws
 
 -- J16, Whole journals: what an Again after the list shows, if it is lent the words ws and they end as us. It is refused by 5
 -- if the list is too short. Else it is refused by 22 if no Close was accepted, and gives what the latest accepted Close
 -- gave if there was one.
 pub record AgainShows (es : List Event) (ws us : List ℕ) (t : Closed) : Type 0 where
-  pub short : length ws < 1152 → AgainRefused 5 ws us t
-  pub before : 1152 ≤ length ws → latestClose es ≡ none → AgainRefused 22 ws us t
-  pub after : 1152 ≤ length ws → (e : Event) → latestClose es ≡ some e → AgainGives e ws us t
+  pub short : length ws < fewestWords → AgainRefused 5 ws us t
+  pub before : fewestWords ≤ length ws → latestClose es ≡ none → AgainRefused 22 ws us t
+  pub after : fewestWords ≤ length ws → (e : Event) → latestClose es ≡ some e → AgainGives e ws us t
 
 -- J14, Whole journals: what a creditor with claim g gets of c, where all claims add up to whole: c × g / whole, rounded
 -- down, or one cent more, and no more than g
@@ -93,7 +95,7 @@ pub record Paid (c whole g payout : ℕ) : Type 0 where
 -- empty, every member got its claim.
 pub record MonthPays (amounts payouts : List ℕ) (earlier : List Event) : Type 0 where
   pub all : sum payouts ≡ sum (collectedIn amounts earlier)
-  pub each : (m : ℕ) → m < 32 → 0 < getD (claimsIn earlier) m 0 →
+  pub each : (m : ℕ) → m < memberCount → 0 < getD (claimsIn earlier) m 0 →
       Paid (sum (collectedIn amounts earlier)) (sum (claimsIn earlier)) (getD (claimsIn earlier) m 0) (getD payouts m 0)
   pub in-full : amounts ≡ [] → payouts ≡ claimsIn earlier
 
@@ -145,7 +147,7 @@ pub record BoughtInTurn (earlier : List Event) (n left : ℕ) (ls : List Line) :
 -- last and something outstanding, these lines say what its offers give in their turns
 abbrev pub BuysInTurn : Opening → List Event → List Line → Type 0
 BuysInTurn o earlier ls = (n : ℕ) (i : Instructed) → instructedIn n earlier ≡ some i → 0 < outstandingIn n i earlier →
-    inBuyIn (termsIn o) (ageIn o i earlier) ≡ true → BoughtInTurn earlier n (outstandingIn n i earlier) ls
+    inBuyIn (termsIn o .grace .0) (lastIn o n i earlier) (ageIn o i earlier) ≡ true → BoughtInTurn earlier n (outstandingIn n i earlier) ls
 
 -- C7, Close: every accepted Close of a journal
 abbrev pub EveryBuyIn : Opening → List Event → Type 0

@@ -14,17 +14,19 @@ use Rattle.calendar.specs.declared.NextDay.{NextDay}
 use Rattle.calendar.specs.declared.NextDay.the-variants.{At, Never}
 use Rattle.calendar.specs.Closed.{day, closedDays, listed}
 use Rattle.calendar.specs.Days.{ageAt, nextAfter}
-use Rattle.netting.specs.Accounts.{claim, owed}
+use Rattle.netting.specs.Accounts.{memberCount, claim, owed}
 use Rattle.ledger.specs.declared.Setup.{Setup}
 use Rattle.ledger.specs.declared.Terms.{Terms}
 use Rattle.ledger.specs.declared.Part.{Part}
+use Rattle.ledger.specs.declared.Sides.{Sides}
 use Rattle.ledger.specs.Parts.{everyPart}
+use Rattle.ledger.specs.Obligations.{sides}
 use Rattle.closing.specs.declared.Line.{Line}
 use Rattle.closing.specs.Lines.{penaltyKind}
 use Rattle.payments.specs.Month.{amountsPaid}
 use Rattle.book.specs.Open.{openRefusals, termsOf}
 use Rattle.journal.specs.Calls.{Opening, Event}
-use Rattle.journal.specs.Facts.{Instructed, instructs, isEnd, reported, facts, movedBy}
+use Rattle.journal.specs.Facts.{Instructed, instructs, isEnd, reported, priceOf, facts, movedBy}
 
 -- ---- what the Open says
 -- O5 and O6, Open: the value that an accepted Open gives the book, or that of the book that a refused Open returns
@@ -83,16 +85,49 @@ outstandingIn n i es = i .quantity - total (λ k. partIn k n es) everyPart
 abbrev pub ageIn : Opening → Instructed → List Event → ℕ
 ageIn o i es = ageAt (listed (closedIn o)) (i .day) (todayIn o es) .0
 
--- ---- the accounts of a journal
--- C5, Close: what the cents of a penalty on what was instructed credit to a member, less what they debit to it
-abbrev pub creditOf : ℕ → ℕ → Option Instructed → ℤ
-creditOf m cents none = pos 0
-creditOf m cents (some i) = pick (eqb (i .buyer) m) (pos cents) (pos 0) -ℤ pick (eqb (i .seller) m) (pos cents) (pos 0)
+-- ---- what an obligation stores
+-- K1 and K4, Cancel: whether an accepted Cancel of obligation n by member m is among the events
+unfoldable pub wishedIn : ℕ → ℕ → List Event → Bool
+wishedIn n m [] = false
+wishedIn n m (e ∷ es) = facts e .wishes n m || wishedIn n m es
 
--- C5 and C12, Close: the lines of kind 1 are penalties, which pass from the seller of their obligation to its buyer
-unfoldable pub penaltiesOf : ℕ → (ℕ → Option Instructed) → List Line → ℤ
-penaltiesOf m instructed [] = pos 0
-penaltiesOf m instructed (l ∷ ls) = pick (eqb (l .kind) penaltyKind) (creditOf m (l .cents) (instructed (l .obligation))) (pos 0) +ℤ penaltiesOf m instructed ls
+-- B8, Buy-in: whether the age of what was instructed is grace, after these events
+abbrev pub isGraceDay : Opening → List Event → Option Instructed → Bool
+isGraceDay o es none = false
+isGraceDay o es (some i) = eqb (ageIn o i es) (termsIn o .grace .0)
+
+-- B8 and B9, Buy-in: the price for the cap of an obligation is that of the accepted Close at age = grace, which is the age
+-- on the day that this Close ends. Before such a Close it is 0.
+unfoldable pub gracePriceIn : Opening → ℕ → List Event → ℕ
+gracePriceIn o n [] = 0
+gracePriceIn o n (e ∷ es) =
+    pick (isEnd (facts e .ends) && isGraceDay o es (instructedIn n es)) (priceOf (facts e .ends)) (gracePriceIn o n es)
+
+-- B9, Buy-in: whether a Close was accepted at age = grace of an obligation
+unfoldable pub graceClosedIn : Opening → ℕ → List Event → Bool
+graceClosedIn o n [] = false
+graceClosedIn o n (e ∷ es) = graceClosedIn o n es || (isEnd (facts e .ends) && isGraceDay o es (instructedIn n es))
+
+-- ---- the accounts of a journal
+-- C5, Close: the sides of a penalty of what was instructed
+abbrev pub sidesBy : Option Instructed → Option Sides
+sidesBy none = none
+sidesBy (some i) = some (sides (i .seller) (i .buyer))
+
+-- C5, Close: the sides of a penalty of obligation n at a Close after these events
+abbrev pub sidesIn : ℕ → List Event → Option Sides
+sidesIn n es = sidesBy (instructedIn n es)
+
+-- C5, Close: what the cents of a penalty with these sides credit to a member, less what they debit to it
+abbrev pub creditOf : ℕ → ℕ → Option Sides → ℤ
+creditOf m cents none = pos 0
+creditOf m cents (some s) = pick (eqb (s .creditor) m) (pos cents) (pos 0) -ℤ pick (eqb (s .debtor) m) (pos cents) (pos 0)
+
+-- C5 and C12, Close: what the penalties among these lines, which are of kind 1, credit to a member, less what they debit
+-- to it, where each number has these sides
+unfoldable pub penaltiesOf : ℕ → (ℕ → Option Sides) → List Line → ℤ
+penaltiesOf m sidesAt [] = pos 0
+penaltiesOf m sidesAt (l ∷ ls) = pick (eqb (l .kind) penaltyKind) (creditOf m (l .cents) (sidesAt (l .obligation))) (pos 0) +ℤ penaltiesOf m sidesAt ls
 
 -- whether an event is a Month, by the list of collected amounts in its facts; an empty list is a list too
 abbrev pub isMonth : Option (List ℕ) → Bool
@@ -103,15 +138,15 @@ isMonth (some cs) = true
 -- to a member, less what they debited to it
 unfoldable pub accountIn : ℕ → List Event → ℤ
 accountIn m [] = pos 0
-accountIn m (e ∷ es) = pick (isMonth (facts e .collects)) (pos 0) (accountIn m es +ℤ penaltiesOf m (λ n. instructedIn n es) (reported (facts e .ends)))
+accountIn m (e ∷ es) = pick (isMonth (facts e .collects)) (pos 0) (accountIn m es +ℤ penaltiesOf m (λ n. sidesIn n es) (reported (facts e .ends)))
 
 -- M4 and J13, Month: the claims after these events, in the order of the members
 abbrev pub claimsIn : List Event → List ℕ
-claimsIn es = table 32 (λ m. claim (accountIn m es))
+claimsIn es = table memberCount (λ m. claim (accountIn m es))
 
 -- M4 and J13, Month: what each member owes after these events, in the order of the members
 abbrev pub debtsIn : List Event → List ℕ
-debtsIn es = table 32 (λ m. owed (accountIn m es))
+debtsIn es = table memberCount (λ m. owed (accountIn m es))
 
 -- J13, Whole journals: what a Month after these events collects if it is given these amounts. If there are none, each
 -- member pays what it owes.
@@ -119,12 +154,16 @@ abbrev pub collectedIn : List ℕ → List Event → List ℕ
 collectedIn amounts es = amountsPaid (debtsIn es) amounts
 
 -- ---- the last day
--- B3, Buy-in: whether today is the last day of what was instructed, on which its age is last
-abbrev pub isLastDay : Opening → Day → Option Instructed → Bool
-isLastDay o today none = false
-isLastDay o today (some i) = eqb (ageAt (listed (closedIn o)) (i .day) today .0) (termsIn o .last .0)
+-- B3, Buy-in: the age of obligation n on its last day, by what was instructed and the events
+unfoldable pub lastIn : Opening → ℕ → Instructed → List Event → ℕ
+lastIn o n i es = termsIn o .last .0
+
+-- B3, Buy-in: whether today is the last day of obligation n, after these events
+abbrev pub isLastDay : Opening → ℕ → List Event → Option Instructed → Bool
+isLastDay o n es none = false
+isLastDay o n es (some i) = eqb (ageIn o i es) (lastIn o n i es)
 
 -- J15, Whole journals: whether a Close was accepted on the last day of an obligation
 unfoldable pub lastClosedIn : Opening → ℕ → List Event → Bool
 lastClosedIn o n [] = false
-lastClosedIn o n (e ∷ es) = lastClosedIn o n es || (isEnd (facts e .ends) && isLastDay o (todayIn o es) (instructedIn n es))
+lastClosedIn o n (e ∷ es) = lastClosedIn o n es || (isEnd (facts e .ends) && isLastDay o n es (instructedIn n es))

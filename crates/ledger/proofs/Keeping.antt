@@ -1,24 +1,28 @@
 -- What a change leaves of an obligation: it is sound again, with the same deal.
-use Prim.Native.Nat.{ℕ, _+_, _≤_}
+use Prim.Native.Nat.{ℕ, _+_, _≤_, _<_}
 use native.Mathlib.Omega.{arith}
 use mathlib.Core.Path.{_≡_, refl, ap, _∙_}
 use lib.Dec.{eqb}
 use Rattle.basics.specs.Lists.{total}
 use Rattle.basics.proofs.Cases.{pick-case}
 use Rattle.amounts.specs.Amounts.{mostQuantity, mostClosePrice}
+use Rattle.netting.specs.Accounts.{memberCount}
+use Rattle.ledger.specs.declared.Terms.{Terms}
 use Rattle.ledger.specs.declared.Part.{Part}
 use Rattle.ledger.specs.declared.Part.the-variants.{Delivered, Cancelled}
 use Rattle.ledger.specs.declared.Parts.{Parts}
 use Rattle.ledger.specs.declared.Deal.{Deal}
 use Rattle.ledger.specs.declared.Wishes.{Wishes}
 use Rattle.ledger.specs.declared.Obligation.{Obligation}
-use Rattle.ledger.specs.Parts.{allParts}
-use Rattle.ledger.specs.Obligations.{withParts, withWishes, withGracePrice, newObligation, settled, moving, withWish, bothWish, wishing, SoundDeal, Sound, Takes}
+use Rattle.ledger.specs.declared.Sides.{Sides}
+use Rattle.ledger.specs.Setup.{ValidTerms}
+use Rattle.ledger.specs.Parts.{settledParts, allParts}
+use Rattle.ledger.specs.Obligations.{withParts, withWishes, withGracePrice, newObligation, settled, moving, withWish, bothWish, wishing, lastOf, sides, sidesOf, SoundDeal, Sound, Takes}
 use Rattle.ledger.proofs.Moving.{part-most, whole-moved, moved-none, moved-more}
 
 -- what is settled and what is outstanding are at most the quantity
 pub settled-most : (o : Obligation) → Sound o → settled o + o .parts .outstanding ≤ o .deal .quantity
-unfolding settled allParts total
+unfolding settledParts allParts total
 settled-most o s = omega (arith, s .whole)
 
 -- other parts that add up to the quantity
@@ -57,26 +61,33 @@ pub priced-sound : (o : Obligation) (price : ℕ) → price ≤ mostClosePrice �
 priced-sound o price h s = record { deal = s .deal; whole = s .whole; stage = record { price-most = h } }
 
 -- ---- what a change leaves as it was
--- the deal stays, and no more is outstanding than before
+-- the deal stays, no more is outstanding than before, and the last day is not an earlier one
 pub record Later (o r : Obligation) : Type 0 where
   pub deal : r .deal ≡ o .deal
   pub less : r .parts .outstanding ≤ o .parts .outstanding
+  pub last : (terms : Terms) → lastOf terms o ≤ lastOf terms r
 
 pub later-same : (o : Obligation) → Later o o
-later-same o = record { deal = refl; less = omega arith }
+later-same o = record { deal = refl; less = omega arith; last = λ terms. omega arith }
 
 pub later-then : (o p r : Obligation) → Later o p → Later p r → Later o r
-later-then o p r a b = record { deal = b .deal ∙ a .deal; less = omega (arith, a .less, b .less) }
+later-then o p r a b = record {
+  deal = b .deal ∙ a .deal;
+  less = omega (arith, a .less, b .less);
+  last = λ terms. omega (arith, a .last terms, b .last terms);
+}
 
 pub moving-later : (k : Part) (o : Obligation) (q : ℕ) → Later o (moving k q o)
-unfolding moving
-moving-later k o q = record { deal = refl; less = omega arith }
+unfolding moving lastOf
+moving-later k o q = record { deal = refl; less = omega arith; last = λ terms. omega arith }
 
 pub priced-later : (o : Obligation) (price : ℕ) → Later o (withGracePrice price o)
-priced-later o price = record { deal = refl; less = omega arith }
+unfolding lastOf
+priced-later o price = record { deal = refl; less = omega arith; last = λ terms. omega arith }
 
 with-wishes-later : (o : Obligation) (w : Wishes) → Later o (withWishes w o)
-with-wishes-later o w = record { deal = refl; less = omega arith }
+unfolding lastOf
+with-wishes-later o w = record { deal = refl; less = omega arith; last = λ terms. omega arith }
 
 with-wish-later : (o : Obligation) (m : ℕ) → Later o (withWish m o)
 unfolding withWish
@@ -86,6 +97,27 @@ pub wishing-later : (o : Obligation) (m : ℕ) → Later o (wishing m o)
 unfolding wishing
 wishing-later o m =
     pick-case (Later o) (bothWish (withWish m o)) _ _ (λ e. later-then o (withWish m o) _ (with-wish-later o m) (moving-later Cancelled (withWish m o) _)) (λ e. with-wish-later o m)
+
+-- ---- the last day
+-- it comes after grace
+pub last-after : (terms : Terms) (o : Obligation) → ValidTerms terms → terms .grace .0 < lastOf terms o
+unfolding lastOf
+last-after terms o h = h .grace-before
+
+-- ---- the sides of a penalty
+-- they are two members with an account each
+pub record SoundSides (s : Sides) : Type 0 where
+  pub debtor-below : s .debtor < memberCount
+  pub creditor-below : s .creditor < memberCount
+  pub apart : s .debtor ≡ s .creditor → ⊥
+
+pub sides-sound : (o : Obligation) → Sound o → SoundSides (sidesOf o)
+unfolding sides
+sides-sound o s = record {
+  debtor-below = s .deal .seller-below;
+  creditor-below = s .deal .buyer-below;
+  apart = s .deal .parties-apart;
+}
 
 -- ---- what is outstanding
 pub outstanding-most : (o : Obligation) → Sound o → o .parts .outstanding ≤ mostQuantity

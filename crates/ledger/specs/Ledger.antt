@@ -1,5 +1,5 @@
 -- The ledger: obligations, offers and accounts.
-use Prim.Native.Nat.{ℕ, _+_, _≤_, _<_}
+use Prim.Native.Nat.{ℕ, _+_, _*_, _≤_, _<_}
 use mathlib.Core.Path.{_≡_}
 use mathlib.Core.Bool.{false}
 use mathlib.Core.List.{List}
@@ -8,7 +8,7 @@ use lib.IntN.{ℤ, pos}
 use lib.ListN.{length, getD, set, replicate}
 use Rattle.basics.specs.Choice.{pick}
 use Rattle.basics.specs.Lists.{Every, Sorted}
-use Rattle.amounts.specs.Amounts.{mostQuantity, mostOfferPrice}
+use Rattle.amounts.specs.Amounts.{mostQuantity, mostOfferPrice, mostPenalty}
 use Rattle.netting.specs.Accounts.{memberCount, balance}
 use Rattle.offers.specs.declared.Offer.{Offer}
 use Rattle.offers.specs.declared.Offers.{Offers}
@@ -24,6 +24,10 @@ use Rattle.ledger.specs.Obligations.{noObligation, Sound}
 -- E13, Enter: the most obligations of a book, each of which takes two of its legs
 abbrev pub mostObligations : ℕ
 mostObligations = 64
+
+-- the most that one Close moves on an account: the largest penalty of each obligation
+abbrev pub mostPerClose : ℕ
+mostPerClose = mostObligations * mostPenalty
 
 -- R1, Refusals: the highest number of a supplier
 abbrev pub mostSupplier : ℕ

@@ -12,13 +12,14 @@ use Rattle.netting.specs.Accounts.{memberCount}
 use Rattle.ledger.specs.declared.Terms.{Terms}
 use Rattle.ledger.specs.declared.Setup.{Setup}
 use Rattle.ledger.specs.declared.Part.{Part}
-use Rattle.ledger.specs.declared.Part.the-variants.{Delivered, Cancelled}
+use Rattle.ledger.specs.declared.Part.the-variants.{Cancelled}
 use Rattle.ledger.specs.declared.Parts.{Parts}
 use Rattle.ledger.specs.declared.Deal.{Deal}
 use Rattle.ledger.specs.declared.Stage.{Stage}
 use Rattle.ledger.specs.declared.Wishes.{Wishes}
 use Rattle.ledger.specs.declared.Obligation.{Obligation}
-use Rattle.ledger.specs.Parts.{partsBy, moved, allParts}
+use Rattle.ledger.specs.declared.Sides.{Sides}
+use Rattle.ledger.specs.Parts.{partsBy, moved, settledParts, allParts}
 
 -- R11, Refusals: the latest settlement day
 abbrev pub latestDay : ℕ
@@ -60,9 +61,9 @@ withWishes w o = record { deal = o .deal; parts = o .parts; stage = o .stage; wi
 abbrev pub withGracePrice : ℕ → Obligation → Obligation
 withGracePrice price o = withStage (record { «grace_price» = price }) o
 
--- V3, Deliver: the units settled are those delivered and those bought in
-unfoldable pub settled : Obligation → ℕ
-settled o = o .parts .delivered + o .parts .«bought_in»
+-- V3, Deliver: the units of an obligation that are settled
+abbrev pub settled : Obligation → ℕ
+settled o = settledParts (o .parts)
 
 -- V2, Deliver: the cash for q units that are settled next
 unfoldable pub cashOf : Obligation → ℕ → ℕ
@@ -75,10 +76,6 @@ moving k q o = withParts (moved k q (o .parts)) o
 -- C10 and K3: all that is outstanding becomes the part k
 abbrev pub movingAll : Part → Obligation → Obligation
 movingAll k o = moving k (o .parts .outstanding) o
-
--- V1, Deliver: q units move from outstanding to delivered
-abbrev pub delivering : ℕ → Obligation → Obligation
-delivering = moving Delivered
 
 -- K1, Cancel: the seller and the buyer are the parties
 unfoldable pub isParty : Obligation → ℕ → Bool
@@ -107,13 +104,25 @@ wishing member o = pick (bothWish (withWish member o)) (movingAll Cancelled (wit
 unfoldable pub movedByWish : ℕ → Obligation → ℕ
 movedByWish member o = pick (bothWish (withWish member o)) (o .parts .outstanding) 0
 
+-- B3, Buy-in: the age of an obligation on its last day
+unfoldable pub lastOf : Terms → Obligation → ℕ
+lastOf terms o = terms .last .0
+
 -- B7, Buy-in, and C7, Close: the age is above grace and not above last
-abbrev pub inBuyIn : Terms → ℕ → Bool
-inBuyIn terms age = ltb (terms .grace .0) age && leb age (terms .last .0)
+abbrev pub inBuyIn : ℕ → ℕ → ℕ → Bool
+inBuyIn grace last age = ltb grace age && leb age last
 
 -- C2, Close: J is today or earlier, and something is outstanding
 unfoldable pub isDue : Day → Obligation → Bool
 isDue today o = leb (o .deal .day .0) (today .0) && ltb 0 (o .parts .outstanding)
+
+-- C5, Close: a penalty is debited to the seller and credited to the buyer
+unfoldable pub sides : ℕ → ℕ → Sides
+sides seller buyer = record { debtor = seller; creditor = buyer }
+
+-- C5, Close: the sides of a penalty of an obligation
+abbrev pub sidesOf : Obligation → Sides
+sidesOf o = sides (o .deal .seller) (o .deal .buyer)
 
 -- what holds of every deal of a book
 pub record SoundDeal (d : Deal) : Type 0 where

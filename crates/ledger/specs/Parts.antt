@@ -1,6 +1,6 @@
 -- The parts of an obligation's quantity: what has become of it, and what is outstanding.
 use Prim.Native.Nat.{ℕ, _+_, _-_}
-use mathlib.Core.Bool.{Bool}
+use mathlib.Core.Bool.{Bool, true, false}
 use mathlib.Core.List.{List, [], _∷_}
 use lib.Dec.{eqb}
 use Rattle.basics.specs.Choice.{pick}
@@ -27,6 +27,13 @@ partNumber Cancelled = 3
 abbrev pub everyPart : List Part
 everyPart = Delivered ∷ BoughtIn ∷ Compensated ∷ Cancelled ∷ []
 
+-- V3, Deliver: the parts that settle, against cash: what is delivered and what is bought in
+abbrev pub settles : Part → Bool
+settles Delivered = true
+settles BoughtIn = true
+settles Compensated = false
+settles Cancelled = false
+
 -- the parts by a function that gives the units of each, and what is outstanding
 abbrev pub partsBy : (Part → ℕ) → ℕ → Parts
 partsBy f left = record {
@@ -48,6 +55,10 @@ noParts = partsBy (λ k. 0) 0
 -- V1, Deliver, C8 and C10, Close, and K3, Cancel: q units move from outstanding to the part k
 abbrev pub moved : Part → ℕ → Parts → Parts
 moved k q p = partsBy (λ j. pick (samePart j k) (partOf j p + q) (partOf j p)) (p .outstanding - q)
+
+-- V3, Deliver: the units settled: the sum of the parts that settle
+unfoldable pub settledParts : Parts → ℕ
+settledParts p = total (λ k. pick (settles k) (partOf k p) 0) everyPart
 
 -- J10, Whole journals: the sum of the parts, which is Q
 unfoldable pub allParts : Parts → ℕ

@@ -10,7 +10,7 @@ ghost use Prim.Native.Nat.{_+_, _≤_, _<_};
 ghost use Rattle.amounts.specs.Amounts.{mostQuantity, mostClosePrice};
 ghost use Rattle.ledger.specs.Parts.{moved, allParts};
 ghost use Rattle.ledger.specs.Obligations.{newObligation, settled, cashOf, moving, Sound, Takes};
-ghost use Rattle.ledger.specs.Obligations.{inBuyIn, isDue, withGracePrice};
+ghost use Rattle.ledger.specs.Obligations.{lastOf, inBuyIn, isDue, sidesOf, withGracePrice};
 ghost use Rattle.ledger.specs.Obligations.{isParty, hasWished, withWish, bothWish, wishing, movedByWish};
 ghost use Rattle.ledger.specs.Ledger.{mostObligations, newLedger, fetched, refusedChange, changed, clearedLedger};
 
@@ -19,6 +19,15 @@ pub const MOST_OBLIGATIONS: usize = 64;
 
 // The latest settlement day; `latestDay` in specs/.
 pub const LATEST_DAY: u64 = 60_000;
+
+// How many words a line of a Close has; `wordsInLine` in specs/.
+pub const WORDS_IN_LINE: usize = 6;
+
+// The most lines of a Close; `mostLines` in specs/.
+pub const MOST_LINES: usize = 192;
+
+// The fewest words of the list of a Close or an Again; `fewestWords` in specs/.
+pub const FEWEST_WORDS: usize = WORDS_IN_LINE * MOST_LINES;
 
 // The highest number of a supplier; `mostSupplier` in specs/.
 pub const MOST_SUPPLIER: u64 = 999;
@@ -84,6 +93,12 @@ pub struct Obligation {
     pub wishes: Wishes,
 }
 
+// The two sides of a penalty: the member that it is debited to, and the member that it is credited to.
+pub struct Sides {
+    pub debtor: u8,
+    pub creditor: u8,
+}
+
 // The answer to a number that names an obligation.
 pub enum Fetched {
     Found(Obligation),
@@ -138,13 +153,11 @@ const NO_OBLIGATION: Obligation = Obligation {
     wishes: NO_WISHES,
 };
 
-impl Terms {
-    // Whether an age is one at which the house buys in: above grace up to last.
-    pub fn buys_in(self, age: ClearingDays) -> bool
-        ensures { λ r. ⌜ r ≡ inBuyIn self (age .0) ⌝ }
-    {
-        self.grace.0 < age.0 && age.0 <= self.last.0
-    }
+// Whether an age is one at which the house buys in: above grace up to last.
+pub fn buys_in(grace: ClearingDays, last: ClearingDays, age: ClearingDays) -> bool
+    ensures { λ r. ⌜ r ≡ inBuyIn (grace .0) (last .0) (age .0) ⌝ }
+{
+    grace.0 < age.0 && age.0 <= last.0
 }
 
 impl Parts {
@@ -181,7 +194,7 @@ impl Obligation {
         }
     }
 
-    // The units settled so far: those delivered and those bought in.
+    // The units settled so far.
     fn settled_so_far(self) -> u64
         requires { ⌜ Sound self ⌝ }
         ensures { λ r. ⌜ r ≡ settled self ⌝ }
@@ -213,6 +226,23 @@ impl Obligation {
         let mut next = self;
         next.parts = after;
         next
+    }
+
+    // The age of the obligation on its last day, by the terms of the book.
+    pub fn last_of(self, terms: Terms) -> ClearingDays
+        ensures { λ r. ⌜ r .0 ≡ lastOf terms self ⌝ }
+    {
+        terms.last
+    }
+
+    // Who is debited and who is credited with a penalty.
+    pub fn penalty_sides(self) -> Sides
+        ensures { λ r. ⌜ r ≡ sidesOf self ⌝ }
+    {
+        Sides {
+            debtor: self.deal.seller,
+            creditor: self.deal.buyer,
+        }
     }
 
     // Whether a Close takes this obligation: its day has come, and something is outstanding.

@@ -1,6 +1,8 @@
 -- The thirty-two signed accounts (M1, Month): what they claim and owe, and a penalty that passes from one to another.
-use Prim.Native.Nat.{ℕ, suc, _^_, _≤_, _<_}
+use Prim.Native.Nat.{ℕ, suc, _-_, _^_, _≤_, _<_}
+use mathlib.Core.Bool.{Bool}
 use mathlib.Core.List.{List, [], _∷_, map}
+use lib.Dec.{ltb}
 use lib.ListN.{getD, set}
 use lib.IntN.{ℤ, pos, negsuc, _+ℤ_, _-ℤ_, natAbs}
 use Rattle.basics.specs.Lists.{sum}
@@ -8,6 +10,14 @@ use Rattle.basics.specs.Lists.{sum}
 -- M1, Month: how many members there are, each with an account
 abbrev pub memberCount : ℕ
 memberCount = 32
+
+-- R1, Refusals: the highest number of a member is 31
+abbrev pub lastMember : ℕ
+lastMember = memberCount - 1
+
+-- R1, Refusals: there is no member with this number
+abbrev pub noMember : ℕ → Bool
+noMember m = ltb lastMember m
 
 -- M4, Month: an account above zero claims its size, and any other claims 0
 abbrev pub claim : ℤ → ℕ

@@ -15,6 +15,9 @@ ghost use Rattle.netting.specs.Portions.{Dividable, byMember, portions, 
 // How many members there are; `memberCount` in specs/.
 pub const MEMBER_COUNT: usize = 32;
 
+// The highest number of a member; `lastMember` in specs/.
+pub const LAST_MEMBER: u64 = MEMBER_COUNT as u64 - 1;
+
 // What the code computes before any share: each member's share rounded down, each remainder, and the cents left.
 struct Portions {
     floors: [u64; MEMBER_COUNT],

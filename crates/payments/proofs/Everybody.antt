@@ -11,7 +11,7 @@ use Rattle.netting.specs.Accounts.{memberCount, claim, owed, claims, debts, bal
 use Rattle.netting.specs.Shares.{shares}
 use Rattle.netting.proofs.Debts.{owed-claimed}
 use Rattle.netting.proofs.Shared.{shares-whole}
-use Rattle.payments.specs.Month.{amountsPaid, monthRefusals, monthNumber, payoutsOf, paidOut}
+use Rattle.payments.specs.Month.{amountsPaid, monthRefusals, monthAnswerBy, payoutsOf, paidOut}
 use Rattle.payments.proofs.Collected.{over-none, empty-over}
 
 -- M12, Month: the sum of what is owed is the sum of the claims, so an empty Month pays every claim
@@ -30,7 +30,7 @@ typed-payouts accounts = rw (paid-typed (debts accounts))
 
 -- M13, Month: a list of just what each member owes and an empty one
 module _ (accounts : List ℤ) (size : length accounts ≡ memberCount) (since : Bool) where
-  pub typed-number : (places : ℕ) → monthNumber accounts since (debts accounts) places ≡ monthNumber accounts since [] places
+  pub typed-number : (places : ℕ) → monthAnswerBy accounts since (debts accounts) places ≡ monthAnswerBy accounts since [] places
   unfolding monthRefusals
   typed-number places = rw (length-map accounts owed ∙ size, over-none accounts, empty-over accounts)
 

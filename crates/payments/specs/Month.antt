@@ -35,8 +35,8 @@ monthRefusals accounts since collected places =
     ∷ []
 
 -- A13, Refusals, of Month: the answer number, with this many places for payouts
-abbrev pub monthNumber : List ℤ → Bool → List ℕ → ℕ → ℕ
-monthNumber accounts since collected places = answer (monthRefusals accounts since collected places)
+abbrev pub monthAnswerBy : List ℤ → Bool → List ℕ → ℕ → ℕ
+monthAnswerBy accounts since collected places = answer (monthRefusals accounts since collected places)
 
 -- M3 and M12, Month: what the members paid, if these are their debts. If the list of collected amounts is empty, each
 -- of them paid its debt. Any other list has the amounts that they paid.
@@ -51,4 +51,4 @@ payoutsOf accounts collected = shares (sum (amountsPaid (debts accounts) collect
 -- M3, Month, and A5, Refusals: every word of the places for payouts as the call ends
 unfoldable pub paidOut : List ℤ → Bool → List ℕ → List ℕ → List ℕ
 paidOut accounts since collected places =
-    outcome (monthNumber accounts since collected (length places)) (payoutsOf accounts collected) (λ n. places)
+    outcome (monthAnswerBy accounts since collected (length places)) (payoutsOf accounts collected) (λ n. places)

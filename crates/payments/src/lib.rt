@@ -6,7 +6,7 @@ ghost use mathlib.Core.Bool.{false};
 ghost use lib.ListN.{length, getD};
 ghost use lib.IntN.{pos};
 ghost use Rattle.netting.specs.Accounts.{memberCount, debts, Bounded, balance};
-ghost use Rattle.payments.specs.Month.{badAmounts, badLists, overCollected, amountsPaid, monthNumber, paidOut};
+ghost use Rattle.payments.specs.Month.{badAmounts, badLists, overCollected, amountsPaid, monthAnswerBy, paidOut};
 
 // Whether a list of this many collected amounts is neither empty nor one with an amount for each member.
 fn are_bad_amounts(collected: usize) -> bool
@@ -86,7 +86,7 @@ pub fn settle_month(
     places: &mut [u64],
 ) -> u64
     requires { ⌜ (Bounded accounts) × (balance accounts ≡ pos 0) ⌝ }
-    ensures { λ r. ⌜ r ≡ monthNumber accounts since (now (collected .entry)) (length (now (places .entry))) ⌝ }
+    ensures { λ r. ⌜ r ≡ monthAnswerBy accounts since (now (collected .entry)) (length (now (places .entry))) ⌝ }
     ensures { λ r. ⌜ now (places .exit) ≡ paidOut accounts since (now (collected .entry)) (now (places .entry)) ⌝ }
     ensures { λ r. ⌜ now (collected .exit) ≡ now (collected .entry) ⌝ }
 {

@@ -13,7 +13,8 @@ use Rattle.calendar.specs.declared.Day.{Day}
 use Rattle.calendar.specs.declared.NextDay.{NextDay}
 use Rattle.calendar.specs.declared.NextDay.the-variants.{At, Never}
 use Rattle.amounts.specs.Amounts.{mostClosePrice, mostRate}
-use Rattle.refusals.specs.Calls.{fewestWords, badRates, closeRefusalsIn, closeRefusals, againRefusals}
+use Rattle.ledger.specs.Lines.{fewestWords}
+use Rattle.refusals.specs.Calls.{badRates, closeRefusalsIn, closeRefusals, againRefusals}
 
 module _ (price rate words : ℕ) where
   -- none of those from the input has the number 0
@@ -23,6 +24,7 @@ module _ (price rate words : ℕ) where
 
   -- what a Close that passes them was given
   pub record Given : Type 0 where
+    pub price-some : 1 ≤ price
     pub price-most : price ≤ mostClosePrice
     pub rate-most : rate ≤ mostRate
     pub long : fewestWords ≤ words
@@ -34,6 +36,7 @@ module _ (price rate words : ℕ) where
       let p5 = passed 5 (ltb words fewestWords) _ (p3 .1) refl in
       let bad = or-false {a = outside 1 mostClosePrice price} (p3 .0) in
       record {
+        price-some = ltb-false price 1 (or-false {a = ltb price 1} (bad .0) .0);
         price-most = ltb-false mostClosePrice price (or-false {a = ltb price 1} (bad .0) .1);
         rate-most = ltb-false mostRate rate (bad .1);
         long = ltb-false words fewestWords (p5 .0);

@@ -19,9 +19,10 @@ use Rattle.ledger.specs.declared.Terms.{Terms}
 use Rattle.ledger.specs.declared.Obligation.{Obligation}
 use Rattle.ledger.specs.declared.Fetched.{Fetched}
 use Rattle.ledger.specs.declared.Fetched.the-variants.{Found, Absent}
-use Rattle.ledger.specs.Obligations.{latestDay, isParty, hasWished, inBuyIn}
+use Rattle.ledger.specs.Obligations.{latestDay, isParty, hasWished, lastOf, inBuyIn}
+use Rattle.ledger.specs.Lines.{fewestWords}
 use Rattle.ledger.specs.Ledger.{mostSupplier}
-use Rattle.refusals.specs.Members.{noMember}
+use Rattle.netting.specs.Accounts.{noMember}
 
 -- ---- calls that name an obligation
 -- A4 and R13, Refusals: the obligation is fetched after the refusals of the input. If it is absent, 13 holds, and there
@@ -96,21 +97,17 @@ offerRefusalsIn supplier q price =
 unfoldable pub offerRefusalsOf : Terms → Day → ℕ → ℕ → Obligation → ℕ → List Refusal
 offerRefusalsOf terms today age offers o price =
     refuse 15 (eqb (o .parts .outstanding) 0)
-    ∷ refuse 16 (ltb (today .0) (o .deal .day .0) || not (inBuyIn terms age))
+    ∷ refuse 16 (ltb (today .0) (o .deal .day .0) || not (inBuyIn (terms .grace .0) (lastOf terms o) age))
     ∷ refuse 17 (leb mostOffers offers)
     ∷ refuse 18 (aboveCap price (o .stage .«grace_price»))
     ∷ []
 
 -- ---- Close
--- C1, Close, and N1, Again: the fewest words of the list
-abbrev pub fewestWords : ℕ
-fewestWords = 1152
-
 -- R3, Refusals, of Close: the price is 0 or above 150,000, or the rate is above 100
 abbrev pub badRates : ℕ → ℕ → Bool
 badRates price rate = outside 1 mostClosePrice price || ltb mostRate rate
 
--- R5, Refusals, of Close and of Again: the list has fewer than 1,152 words
+-- R5, Refusals, of Close and of Again: the list has too few words
 abbrev pub isShort : ℕ → Bool
 isShort words = ltb words fewestWords
 

@@ -11,11 +11,12 @@ use calendar::Day;
 use calendar::LAST_DAY;
 use instructions::Instruction;
 use instructions::MOST_LEGS;
+use ledger::FEWEST_WORDS;
 use ledger::LATEST_DAY;
 use ledger::MOST_SUPPLIER;
 use ledger::Obligation;
 use ledger::Terms;
-use netting::MEMBER_COUNT;
+use netting::LAST_MEMBER;
 use offers::MOST_OFFERS;
 ghost use mathlib.Core.Path.{_≡_};
 ghost use Prim.Native.Nat.{_≤_};
@@ -24,12 +25,6 @@ ghost use Rattle.amounts.specs.Amounts.{mostOfferPrice, mostClosePrice};
 ghost use Rattle.instructions.specs.Legs.{legOf};
 ghost use Rattle.refusals.specs.Calls.{badFirst, badParties, badDay, enterRefusals, cancelRefusalsOf};
 ghost use Rattle.refusals.specs.Calls.{deliverRefusalsOf, offerRefusalsIn, offerRefusalsOf, badRates, isShort, closeRefusalsIn, againRefusals};
-
-// The highest number of a member; `lastMember` in specs/.
-pub const LAST_MEMBER: u64 = MEMBER_COUNT as u64 - 1;
-
-// The fewest words of the list of a Close or an Again; `fewestWords` in specs/.
-const FEWEST_WORDS: usize = 1_152;
 
 // Whether the members or the side of an instruction are refused.
 pub fn are_bad_parties(member: u64, other: u64, side: u64) -> bool
@@ -75,7 +70,7 @@ pub fn enter_answer(closed_days: ClosedDays, today: Day, legs: usize, asked: Ins
 }
 
 // The answer number of a wish to cancel a fetched obligation.
-pub fn cancel_answer(found: Obligation, member: u64) -> u64
+pub fn cancel_answer_of(found: Obligation, member: u64) -> u64
     ensures { λ r. ⌜ r ≡ answer (cancelRefusalsOf found member) ⌝ }
 {
     if !found.is_party(member) || found.has_wished(member) {
@@ -88,7 +83,7 @@ pub fn cancel_answer(found: Obligation, member: u64) -> u64
 }
 
 // The answer number of a delivery of a fetched obligation.
-pub fn deliver_answer(today: Day, found: Obligation, quantity: u64) -> u64
+pub fn deliver_answer_of(today: Day, found: Obligation, quantity: u64) -> u64
     ensures { λ r. ⌜ r ≡ answer (deliverRefusalsOf today found quantity) ⌝ }
 {
     if (found.parts.outstanding as u64) < quantity {
@@ -101,7 +96,7 @@ pub fn deliver_answer(today: Day, found: Obligation, quantity: u64) -> u64
 }
 
 // The answer number of an offer by its own numbers.
-pub fn offer_answer(supplier: u64, quantity: u64, price: u64) -> u64
+pub fn offer_answer_in(supplier: u64, quantity: u64, price: u64) -> u64
     ensures { λ r. ⌜ r ≡ answer (offerRefusalsIn supplier quantity price) ⌝ }
 {
     if MOST_SUPPLIER < supplier {
@@ -131,7 +126,8 @@ pub fn offer_answer_of(
     if found.parts.outstanding == 0 {
         return 15;
     }
-    if today.0 < found.deal.day.0 || !terms.buys_in(age) {
+    let last = found.last_of(terms);
+    if today.0 < found.deal.day.0 || !ledger::buys_in(terms.grace, last, age) {
         return 16;
     }
     if MOST_OFFERS <= offers {
@@ -158,7 +154,7 @@ fn is_short(words: usize) -> bool
 }
 
 // The answer number of a Close by its own numbers, with this many words lent.
-pub fn close_answer(price: u64, rate: u64, words: usize) -> u64
+pub fn close_answer_in(price: u64, rate: u64, words: usize) -> u64
     ensures { λ r. ⌜ r ≡ answer (closeRefusalsIn price rate words) ⌝ }
 {
     if are_bad_rates(price, rate) {

@@ -10,8 +10,9 @@ use Rattle.basics.specs.Lists.{padded}
 use Rattle.basics.proofs.Places.{padded-more, padded-length, padded-front}
 use Rattle.basics.proofs.Stores.{sets-ahead}
 use Rattle.basics.proofs.Tables.{table-last}
+use Rattle.ledger.specs.Lines.{wordsInLine, fewestWords, mostLines}
 use Rattle.closing.specs.declared.Line.{Line}
-use Rattle.closing.specs.Lines.{mostLines, wordsOf, flat, written, lineAt, linesRead}
+use Rattle.closing.specs.Lines.{wordsOf, flat, written, lineAt, linesRead}
 use Rattle.closing.proofs.Lines.{flat-length, flat-stores, read-length}
 use Rattle.reprint.specs.declared.KeptLine.{KeptLine}
 use Rattle.reprint.specs.declared.LastClose.{LastClose}
@@ -51,21 +52,21 @@ front-length i rows h = length-map (take i rows) lineOf ∙ length-take-le i row
 
 -- with one line more written behind them
 pub wrote-more : (rows : List KeptLine) (i : ℕ) (ws us vs : List ℕ) → i < length rows → us ≡ sets ws 0 (flat (front i rows)) →
-    vs ≡ sets us (6 * i) (wordsOf (lineOf (getD rows i noLine))) → vs ≡ sets ws 0 (flat (front (i + 1) rows))
+    vs ≡ sets us (wordsInLine * i) (wordsOf (lineOf (getD rows i noLine))) → vs ≡ sets ws 0 (flat (front (i + 1) rows))
 unfolding flat
 wrote-more rows i ws us vs h e f =
     let l : Line = lineOf (getD rows i noLine) in
     let more : front (i + 1) rows ≡ front i rows ++ l ∷ [] =
     rw (add-one i, take-suc rows i noLine h) (map-append lineOf (take i rows) (getD rows i noLine ∷ [])) in
-    let place : 6 * i ≡ 6 * (0 + length (front i rows)) = omega (arith, front-length i rows (omega arith)) in
+    let place : wordsInLine * i ≡ wordsInLine * (0 + length (front i rows)) = omega (arith, front-length i rows (omega arith)) in
     f
-    ∙ ap (λ (us : List ℕ). sets us (6 * i) (wordsOf l)) e
+    ∙ ap (λ (us : List ℕ). sets us (wordsInLine * i) (wordsOf l)) e
     ∙ ap (λ (n : ℕ). sets (sets ws 0 (flat (front i rows))) n (wordsOf l)) place
     ∙ flat-stores ws 0 (front i rows) (l ∷ [])
     ∙ ap (λ (ls : List Line). sets ws 0 (flat ls)) (sym more)
 
 -- the lines are at the front, and the words behind them are as they were
-pub wrote-all : (k : LastClose) (ws us : List ℕ) → ValidLast k → 6 * mostLines ≤ length ws → us ≡ sets ws 0 (flat (linesKept k)) → us ≡ written (linesKept k) ws
+pub wrote-all : (k : LastClose) (ws us : List ℕ) → ValidLast k → fewestWords ≤ length ws → us ≡ sets ws 0 (flat (linesKept k)) → us ≡ written (linesKept k) ws
 unfolding written
 wrote-all k ws us v h e =
     e ∙ sets-ahead ws (flat (linesKept k)) (omega (arith, flat-length (linesKept k), front-length (k .count) (k .rows) (omega (arith, v .size, v .few)), v .few))

@@ -4,8 +4,9 @@ use mathlib.Core.Path.{_≡_}
 use mathlib.Core.List.{List, map}
 use lib.ListN.{length, take}
 use Rattle.basics.specs.Lists.{Every, padded}
+use Rattle.ledger.specs.Lines.{wordsInLine, mostLines}
 use Rattle.closing.specs.declared.Line.{Line}
-use Rattle.closing.specs.Lines.{mostLines, linesRead, SoundLine}
+use Rattle.closing.specs.Lines.{linesRead, SoundLine}
 use Rattle.reprint.specs.declared.KeptLine.{KeptLine}
 use Rattle.reprint.specs.declared.LastClose.{LastClose}
 
@@ -46,7 +47,7 @@ linesKept k = map lineOf (take (k .count) (k .rows))
 -- what is required so that the first count lines of a list can be kept
 pub record Keepable (count : ℕ) (ws : List ℕ) : Type 0 where
   pub few : count ≤ mostLines
-  pub long : 6 * count ≤ length ws
+  pub long : wordsInLine * count ≤ length ws
   pub sound : Every SoundLine (linesRead count ws)
 
 -- what holds of the lines that any book keeps

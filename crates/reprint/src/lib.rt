@@ -1,14 +1,14 @@
 // The lines of the latest Close. The book keeps them, so that Again can give them once more.
 use closing::Line;
+use ledger::MOST_LINES;
+use ledger::WORDS_IN_LINE;
 ghost use mathlib.Core.Path.{_≡_};
 ghost use Prim.Native.Nat.{_+_, _*_, _≤_};
 ghost use mathlib.Core.List.{[]};
 ghost use lib.ListN.{length};
-ghost use Rattle.closing.specs.Lines.{mostLines, lineAt, linesRead, written, SoundLine};
+ghost use Rattle.ledger.specs.Lines.{wordsInLine, fewestWords};
+ghost use Rattle.closing.specs.Lines.{lineAt, linesRead, written, SoundLine};
 ghost use Rattle.reprint.specs.Kept.{keptLine, lineOf, keptFrom, linesKept, Keepable, ValidLast};
-
-// The most lines of a Close; `mostLines` in specs/ of closing.
-const MOST_LINES: usize = 192;
 
 // A line of a Close as the book keeps it. Its fields are narrow, because the book holds 192 of these and is copied at
 // every call, and there is no gap between two lines.
@@ -39,10 +39,10 @@ const NO_LINE: KeptLine = KeptLine {
 
 // Reads the line with a number from a list of words.
 fn line_at(lines: &[u64], i: usize) -> KeptLine
-    requires { ⌜ (6 * (i + 1) ≤ length (now lines)) × (SoundLine (lineAt (now lines) i)) ⌝ }
+    requires { ⌜ (wordsInLine * (i + 1) ≤ length (now lines)) × (SoundLine (lineAt (now lines) i)) ⌝ }
     ensures { λ r. ⌜ r ≡ keptLine (lineAt (now (lines .entry)) i) ⌝ }
 {
-    let at = 6 * i;
+    let at = WORDS_IN_LINE * i;
     KeptLine {
         cents: lines[at + 3],
         quantity: lines[at + 2] as u32,
@@ -101,7 +101,7 @@ impl LastClose {
 
     // Writes the lines to the front of a list of words. Each word behind them stays as it was.
     pub fn write(self, lines: &mut [u64])
-        requires { ⌜ (ValidLast self) × (6 * mostLines ≤ length (now lines)) ⌝ }
+        requires { ⌜ (ValidLast self) × (fewestWords ≤ length (now lines)) ⌝ }
         ensures { λ _. ⌜ now (lines .exit) ≡ written (linesKept self) (now (lines .entry)) ⌝ }
     {
         let rows = self.rows;

@@ -4,24 +4,25 @@ use native.Mathlib.Numerals.{add-one}
 use native.Mathlib.Omega.{arith}
 use Prim.Native.Nat.{ℕ, _-_, _≤_, _<_}
 use mathlib.Core.Path.{_≡_, refl, sym, subst, ap, _∙_}
+use mathlib.Core.Logic.{⊎-elim}
 use mathlib.Core.List.{List}
 use lib.ListN.{length, getD}
 use borrow.Author.Needs.{needs}
-use Rattle.netting.specs.Accounts.{memberCount}
+use Rattle.netting.specs.Accounts.{memberCount, transferred}
 use Rattle.ledger.specs.declared.Obligation.{Obligation}
-use Rattle.ledger.specs.Obligations.{noObligation}
+use Rattle.ledger.specs.Obligations.{noObligation, Sound}
 use Rattle.ledger.specs.Ledger.{obligationAt}
 use Rattle.offers.specs.Held.{listed}
 use Rattle.closing.specs.Close.{accountsUpTo}
-use Rattle.closing.proofs.Together.{Done, rows-behind, done-none, done-one, done-length, done-all, done-room, done-closes, lines-most}
-use Rattle.closing.proofs.Fines.{bounded-up-to, accounts-length}
+use Rattle.closing.proofs.Parts.{due-stages}
+use Rattle.closing.proofs.Together.{Done, rows-behind, done-none, done-due, done-idle, done-length, done-all, done-room, done-closes, lines-most}
+use Rattle.closing.proofs.Fines.{fine-transferable, fined-due, fined-idle, bounded-up-to, accounts-length}
 use Rattle.closing.proofs.close.Statement.{statement}
 use Rattle.closing.proofs.close.Tie as tie
 
 abbrev Inv-loop : tie.InvT-loop
 Inv-loop l day lines₀ offers n rows₀ accounts₀ count₀ i₀ lines rows accounts count i =
-    (i ≤ n) × (Done day (listed offers) rows₀ i rows count lines₀ lines)
-    × (accounts ≡ accountsUpTo (day .today) (day .price) (day .rate) rows₀ accounts₀ i)
+    (i ≤ n) × (Done day (listed offers) rows₀ i rows count lines₀ lines) × (accounts ≡ accountsUpTo day rows₀ accounts₀ i)
 
 abbrev μ-loop : tie.MeasureT-loop
 μ-loop l day lines₀ offers n rows₀ accounts₀ count₀ i₀ lines rows accounts count i = n - i
@@ -41,9 +42,7 @@ sized : (c : tie.At-loop Inv-loop μ-loop) → length (c .loop .accounts) ≡ me
 sized c =
     let s = start c in
     let a = s .args in
-    ap length (c .loop .inv .2)
-    ∙ accounts-length (a .day .today) (a .day .price) (a .day .rate) (a .l .obligations) (a .l .accounts) (c .loop .i)
-    ∙ s .pre .valid .accounts .size
+    ap length (c .loop .inv .2) ∙ accounts-length (a .day) (a .l .obligations) (a .l .accounts) (c .loop .i) ∙ s .pre .valid .accounts .size
 
 -- the obligation of a turn has a place
 placed : (c : tie.In-loop Inv-loop μ-loop) → c .before .loop .i < 64
@@ -59,47 +58,83 @@ mul-o c = search needs
 array-copy-out-o : tie.Need-array-copy-out-o Inv-loop μ-loop
 array-copy-out-o c = placed c
 
-slice-aggregate-fine : tie.Need-slice-aggregate-fine Inv-loop μ-loop
-slice-aggregate-fine c = sym (sized (c .before .before .before))
+is-due-requires : tie.Need-is-due-requires Inv-loop μ-loop
+is-due-requires c κs = search needs
 
-fine-requires : tie.Need-fine-requires Inv-loop μ-loop
-fine-requires c κs =
-    let turn = c .before .before .before in
+penalty-on-requires : tie.Need-penalty-on-requires Inv-loop μ-loop
+penalty-on-requires c κs =
+    let turn = c .before .before .before .before in
+    let h = start turn .pre in
+    (rw (same turn) (h .valid .sound _ (c .before .before .before .loop-test .taken)), h .end)
+
+penalty-sides-requires : tie.Need-penalty-sides-requires Inv-loop μ-loop
+penalty-sides-requires c κs = search needs
+
+slice-aggregate-transfer : tie.Need-slice-aggregate-transfer Inv-loop μ-loop
+slice-aggregate-transfer c = sym (sized (c .before .before .before .before .before .before .before))
+
+cast-transfer : tie.Need-cast-transfer Inv-loop μ-loop
+cast-transfer c = search needs
+
+cast-transfer-2 : tie.Need-cast-transfer-2 Inv-loop μ-loop
+cast-transfer-2 c = search needs
+
+transfer-requires : tie.Need-transfer-requires Inv-loop μ-loop
+transfer-requires c κs =
+    let turn = c .before .before .before .before .before .before .before .before .before in
     let s = start turn in
     let h = s .pre in
-    let moved = bounded-up-to (s .args .day .today) (s .args .day .price) (s .args .day .rate) (s .args .l) (h .valid) (h .price-most) (h .rate-most) _ (turn .loop .inv .0) (h .accounts-near) in
-    ((rw (same turn) (h .valid .sound _ (c .before .before .loop-test .taken)), h .price-most, h .rate-most), (rw (turn .loop .inv .2) moved, sized turn))
+    let bounded = bounded-up-to (s .args .day) (s .args .l) (h .end) (h .valid) _ (turn .loop .inv .0) (h .accounts-near) in
+    let o = getD (turn .loop .rows) (turn .loop .i) noObligation in
+    let sound : Sound o = rw (same turn) (h .valid .sound _ (c .before .before .before .before .before .before .before .before .loop-test .taken)) in (
+      rw (c .before .before .before .penalty-sides .ensures, c .before .before .before .before .penalty-on .ensures) (fine-transferable (s .args .day) o _ (h .end) sound (rw (turn .loop .inv .2) bounded)),
+      sized turn,
+    )
 
-close-one-requires : tie.Need-close-one-requires Inv-loop μ-loop
-close-one-requires c κs =
-    let turn = c .before .before .before .before .before .before in
+close-due-requires : tie.Need-close-due-requires Inv-loop μ-loop
+close-due-requires c κs =
+    let turn = c .before .before .before .before .before .before .before .before .before .before .before .before in
     let s = start turn in
-    let more = c .before .before .before .before .before .loop-test .taken in (
-      rw (same turn) (done-closes (s .args .day) (s .args .l) _ _ (s .pre) more),
-      rw (same turn) (done-room (s .args .day) (s .args .l) _ _ _ _ _ (s .pre) more (turn .loop .inv .1)),
+    let more = c .before .before .before .before .before .before .before .before .before .before .before .loop-test .taken in
+    let due = sym (c .before .before .before .before .before .before .before .before .before .is-due .ensures) ∙ c .before .before .before .before .before .before .before .before .if1 .taken in (
+      (rw (same turn) (done-closes (s .args .day) (s .args .l) _ _ (s .pre) more), c .before .before .before .before .before .before .before .penalty-on .ensures),
+      rw (← due-stages (s .args .day) (listed (s .args .l .offers)) _ (getD (turn .loop .rows) (turn .loop .i) noObligation) due, same turn) (done-room (s .args .day) (s .args .l) _ _ _ _ _ (s .pre) more (turn .loop .inv .1)),
     )
 
 mul-rows : tie.Need-mul-rows Inv-loop μ-loop
-mul-rows c = record { fits = omega (arith, placed (c .before .before .before .before .before .before .before .before .before)) }
+mul-rows c = record { fits = omega (arith, placed (c .before .before .before .before .before .before .before .before .before .before .before .before .before .before .before)) }
 
 array-set-from-rows : tie.Need-array-set-from-rows Inv-loop μ-loop
-array-set-from-rows c = placed (c .before .before .before .before .before .before .before .before .before)
+array-set-from-rows c = placed (c .before .before .before .before .before .before .before .before .before .before .before .before .before .before .before)
 
 add-i : tie.Need-add-i Inv-loop μ-loop
-add-i c = record { fits = omega (arith, placed (c .before .before .before .before .before .before .before .before .before)) }
+add-i c = record { fits = omega (arith, placed (c .before .before .before)) }
 
 loop-less : tie.Need-loop-less Inv-loop μ-loop
-loop-less c = let more = c .before .before .before .before .before .before .before .before .before .loop-test .taken in omega (arith, more)
+loop-less c = let more = c .before .before .before .loop-test .taken in omega (arith, more)
 
 loop-again : tie.Need-loop-again Inv-loop μ-loop
 unfolding accountsUpTo
 loop-again c =
-    let turn = c .before .before .before .before .before .before .before .before .before .before in
-    let more = c .before .before .before .before .before .before .before .before .before .loop-test .taken in (
+    let turn = c .before .before .before .before in
+    let more = c .before .before .before .loop-test .taken in
+    let asked = rw (same turn) at (c .before .is-due .ensures) in
+    ⊎-elim
+    (λ w.
+    let due = sym asked ∙ w .0 .taken in (
       omega (arith, more),
-      done-one _ _ _ _ _ _ _ _ (turn .loop .inv .1) _ _ (rw (← same turn) (c .before .before .before .close-one .ensures)),
-      rw (add-one (turn .loop .i), ← turn .loop .inv .2, ← same turn) (c .before .before .before .before .before .before .fine .ensures),
-    )
+      rw (w .13, w .14, w .16) (done-due _ _ _ _ _ _ _ _ (turn .loop .inv .1) due _ _ (rw (← same turn) (w .9 .ensures))),
+      w .15 ∙ w .6 .ensures
+          ∙ (λ i. transferred (w .2 .ensures i .debtor) (w .2 .ensures i .creditor) (w .1 .ensures i) (turn .loop .inv .2 i))
+          ∙ rw (same turn, add-one (turn .loop .i)) (sym (fined-due (start turn .args .day) _ _ due)),
+    ))
+    (λ w.
+    let idle = sym asked ∙ w .0 .left in (
+      omega (arith, more),
+      rw (w .1, w .2, w .4) (done-idle _ _ _ _ _ _ _ _ (turn .loop .inv .1) idle),
+      w .3 ∙ turn .loop .inv .2 ∙ rw (add-one (turn .loop .i)) (sym (fined-idle (start turn .args .day) _ _ idle)),
+    ))
+    (c .if1 .came)
 
 none-requires : tie.Need-none-requires Inv-loop μ-loop
 none-requires c κs = search needs
@@ -117,8 +152,8 @@ returns c =
     subst (λ (k : ℕ). Done (a .day) (listed (a .l .offers)) (a .l .obligations) k (turn .loop .rows) (turn .loop .count) (a .lines .now) (turn .loop .lines))
     all (turn .loop .inv .1) in
     let rows = done-all _ _ _ _ _ _ _ _ s
-    (omega (arith, lines-most (a .day) (a .l .obligations) (a .l .offers) (h .setup .terms) (h .valid .offers .few) (a .l .count) (h .valid .few), h .long)) in
-    let accounts = turn .loop .inv .2 ∙ ap (accountsUpTo (a .day .today) (a .day .price) (a .day .rate) (a .l .obligations) (a .l .accounts)) all in
+    (omega (arith, lines-most (a .day) (a .l .obligations) (a .l .offers) (h .end .setup .terms) (h .valid .offers .few) (a .l .count) (h .valid .few), h .long)) in
+    let accounts = turn .loop .inv .2 ∙ ap (accountsUpTo (a .day) (a .l .obligations) (a .l .accounts)) all in
     record {
       result = λ i. record { obligations = rows .result i; count = a .l .count; offers = c .none .ensures i; accounts = accounts i };
       counted = rows .counted;
@@ -134,9 +169,14 @@ close-spec =
     loop-holds
     mul-o
     array-copy-out-o
-    slice-aggregate-fine
-    fine-requires
-    close-one-requires
+    is-due-requires
+    penalty-on-requires
+    penalty-sides-requires
+    slice-aggregate-transfer
+    cast-transfer
+    cast-transfer-2
+    transfer-requires
+    close-due-requires
     mul-rows
     array-set-from-rows
     add-i

@@ -1,47 +1,87 @@
 -- `close_due` meets its contract.
+use mathlib.Core.Path.{_≡_, sym, ap}
 use borrow.Author.Needs.{needs}
-use Rattle.closing.proofs.Course.{room-one, notice-room, buy-in-room, buy-in-sound, compensate-room, compensate-sound, all-wrote}
-use Rattle.closing.proofs.Parts.{priced-goes}
+use Rattle.calendar.specs.declared.ClearingDays.{ClearingDays}
 use Rattle.offers.specs.Held.{listed}
+use Rattle.ledger.specs.Obligations.{ageBy, Sound}
+use Rattle.closing.specs.Lines.{Room}
+use Rattle.closing.specs.Close.{course, stages}
+use Rattle.closing.proofs.Course.{course-is, penalty-room, notice-room, buy-in-room, buy-in-sound, compensate-room, compensate-sound, all-wrote}
+use Rattle.closing.proofs.Parts.{priced-goes}
 use Rattle.closing.proofs.close_due.Statement.{statement}
 use Rattle.closing.proofs.close_due.Tie as tie
+
+-- where the function begins
+abbrev start : tie.After-keep-price → tie.Start
+start c = c .before .before .before .before .before .before
+
+-- the course that the function follows is that of the rules
+followed : (c : tie.After-keep-price) →
+    course (start c .args .cents) (c .before .measures-at .result) (start c .args .day .price) (listed (start c .args .offers)) (start c .args .number) (c .keep-price .result) ≡
+    stages (start c .args .day) (ageBy (start c .args .day .setup) (start c .args .day .today) (start c .args .o)) (listed (start c .args .offers)) (start c .args .number) (start c .args .o)
+followed c =
+    let a = start c .args in
+    course-is (a .day) (listed (a .offers)) (a .number) (a .o) _ _ _ _ (start c .pre .0 .1) (ap (λ (x : ClearingDays). x .0) (c .before .before .age-at .ensures))
+    (c .before .measures-at .ensures) (c .keep-price .ensures)
+
+-- it has room for its lines
+room : (c : tie.After-keep-price) → Room (start c .args .count) (start c .args .lines .now)
+    (course (start c .args .cents) (c .before .measures-at .result) (start c .args .day .price) (listed (start c .args .offers)) (start c .args .number) (c .keep-price .result))
+room c = rw (followed c) (start c .pre .1)
+
+-- the obligation with its price stored is sound
+sound : (c : tie.After-keep-price) → Sound (c .keep-price .result)
+sound c = let h = start c .pre .0 .0 in rw (c .keep-price .ensures) (priced-goes _ _ _ _ (h .end .price-most) (h .sound) .sound)
+
+age-at-requires : tie.Need-age-at-requires
+age-at-requires c κs = search needs
+
+measures-at-requires : tie.Need-measures-at-requires
+measures-at-requires c κs = search needs
 
 keep-price-requires : tie.Need-keep-price-requires
 keep-price-requires c κs = search needs
 
 penalise-requires : tie.Need-penalise-requires
-penalise-requires c κs = let a = c .before .before .before .before .args in let h = c .before .before .before .before .pre in (
-  (rw (c .before .keep-price .ensures) (priced-goes _ _ _ _ (h .0 .price-most) (h .0 .sound) .sound), h .0 .price-most, h .0 .rate-most),
-  room-one (a .day) (a .age .0) (listed (a .offers)) (a .number) (a .o) (a .count) (a .lines .now) (h .1) _ (c .before .keep-price .ensures),
-)
+penalise-requires c κs = let k = c .before in penalty-room _ _ _ _ _ _ _ (start k .args .lines .now) (room k)
 
 give-notice-requires : tie.Need-give-notice-requires
-give-notice-requires c κs = let a = c .before .before .before .before .before .before .before .before .args in
-    notice-room (a .day) (a .age .0) (listed (a .offers)) (a .number) (a .o) (a .count) (a .lines .now) (c .before .before .before .before .before .before .before .before .pre .1) _ (c .before .before .before .before .before .keep-price .ensures) _ _ (c .before .before .before .penalise .ensures)
+give-notice-requires c κs = notice-room _ _ _ _ _ _ _ _ (room (c .before .before .before .before .before)) _ _ (c .before .before .before .penalise .ensures)
 
 buy-in-requires : tie.Need-buy-in-requires
-buy-in-requires c κs = let a = c .before .before .before .before .before .before .before .before .before .before .before .before .args in let h = c .before .before .before .before .before .before .before .before .before .before .before .before .pre in (
-  (buy-in-sound (a .day) (a .age .0) (listed (a .offers)) (a .number) (a .o) (a .count) (a .lines .now) (h .1) _ (c .before .before .before .before .before .before .before .before .before .keep-price .ensures) _ _ (c .before .before .before .before .before .before .before .penalise .ensures) _ _ (c .before .before .before .give-notice .ensures) (h .0 .price-most) (h .0 .sound), h .0 .priced),
-  buy-in-room (a .day) (a .age .0) (listed (a .offers)) (a .number) (a .o) (a .count) (a .lines .now) (h .1) _ (c .before .before .before .before .before .before .before .before .before .keep-price .ensures) _ _ (c .before .before .before .before .before .before .before .penalise .ensures) _ _ (c .before .before .before .give-notice .ensures),
-)
+buy-in-requires c κs =
+    let k = c .before .before .before .before .before .before .before .before .before in (
+      (buy-in-sound _ _ _ _ _ _ _ _ (room k) _ _ (c .before .before .before .before .before .before .before .penalise .ensures) _ _ (c .before .before .before .give-notice .ensures) (sound k), start k .pre .0 .0 .priced),
+      buy-in-room _ _ _ _ _ _ _ _ (room k) _ _ (c .before .before .before .before .before .before .before .penalise .ensures) _ _ (c .before .before .before .give-notice .ensures),
+    )
 
 compensate-requires : tie.Need-compensate-requires
-compensate-requires c κs = let a = c .before .before .before .before .before .before .before .before .before .before .before .before .before .before .before .before .args in let h = c .before .before .before .before .before .before .before .before .before .before .before .before .before .before .before .before .pre in (
-  (compensate-sound (a .day) (a .age .0) (listed (a .offers)) (a .number) (a .o) (a .count) (a .lines .now) (h .1) _ (c .before .before .before .before .before .before .before .before .before .before .before .before .before .keep-price .ensures) _ _ (c .before .before .before .before .before .before .before .before .before .before .before .penalise .ensures) _ _ (c .before .before .before .before .before .before .before .give-notice .ensures) _ _ (c .before .before .before .buy-in .ensures) (h .0 .price-most) (h .0 .sound), h .0 .price-most),
-  compensate-room (a .day) (a .age .0) (listed (a .offers)) (a .number) (a .o) (a .count) (a .lines .now) (h .1) _ (c .before .before .before .before .before .before .before .before .before .before .before .before .before .keep-price .ensures) _ _ (c .before .before .before .before .before .before .before .before .before .before .before .penalise .ensures) _ _ (c .before .before .before .before .before .before .before .give-notice .ensures) _ _ (c .before .before .before .buy-in .ensures),
-)
+compensate-requires c κs =
+    let k = c .before .before .before .before .before .before .before .before .before .before .before .before .before in
+    let paid = c .before .before .before .before .before .before .before .before .before .before .before .penalise .ensures in
+    let told = c .before .before .before .before .before .before .before .give-notice .ensures in
+    let bought = c .before .before .before .buy-in .ensures in (
+      (compensate-sound _ _ _ _ _ _ _ _ (room k) _ _ paid _ _ told _ _ bought (sound k), start k .pre .0 .0 .end .price-most),
+      compensate-room _ _ _ _ _ _ _ _ (room k) _ _ paid _ _ told _ _ bought,
+    )
 
 same-length : tie.Need-same-length
 same-length c = search needs
 
 returns : tie.Need-returns
-returns c = let a = c .before .before .before .before .before .before .before .before .before .before .before .before .before .before .before .before .before .before .before .args in
-    all-wrote (a .day) (a .age .0) (listed (a .offers)) (a .number) (a .o) (a .count) (a .lines .now) (c .before .before .before .before .before .before .before .before .before .before .before .before .before .before .before .before .before .before .before .pre .1) _ (c .before .before .before .before .before .before .before .before .before .before .before .before .before .before .before .before .keep-price .ensures) _ _ (c .before .before .before .before .before .before .before .before .before .before .before .before .before .before .penalise .ensures) _ _ (c .before .before .before .before .before .before .before .before .before .before .give-notice .ensures) _ _ (c .before .before .before .before .before .before .buy-in .ensures) _ _ (c .before .before .compensate .ensures)
+returns c =
+    let k = c .before .before .before .before .before .before .before .before .before .before .before .before .before .before .before .before in
+    let paid = c .before .before .before .before .before .before .before .before .before .before .before .before .before .before .penalise .ensures in
+    let told = c .before .before .before .before .before .before .before .before .before .before .give-notice .ensures in
+    let bought = c .before .before .before .before .before .before .buy-in .ensures in
+    rw (sym (followed k)) (all-wrote _ _ _ _ _ _ _ _ (room k) _ _ paid _ _ told _ _ bought _ _ (c .before .before .compensate .ensures))
 
 pub close-due-spec : {M : Type 1} → statement M
 close-due-spec =
     tie.close
     (tie.spec
+    age-at-requires
+    measures-at-requires
     keep-price-requires
     penalise-requires
     give-notice-requires

@@ -7,6 +7,7 @@ use mathlib.Core.List.{List}
 use mathlib.Core.Logic.{_⊎_, inl, inr}
 use lib.ListN.{length, length-replicate}
 use borrow.Author.Needs.{needs}
+use Rattle.ledger.specs.Lines.{wordsInLine}
 use Rattle.book.specs.declared.Book.{Book}
 use Rattle.book.specs.Book.{Valid}
 use Rattle.book.proofs.Ended.{close-fits, again-fits}
@@ -70,7 +71,7 @@ ready s = let i = turn s .loop .inv .0 in fed-ready (fed s .feed-on .ensures) (i
 
 -- The answer to a call that is lent words for lines can be written, if its lines stand within these words. So can that to a
 -- close, and that to an again.
-lines-tell : (s : tie.After-slice-known8 Inv-loop μ-loop) {after : List ℕ} (n count : ℕ) → 6 * count ≤ length (lentTo (asked s .ask .result)) → length after ≡ length (turn s .loop .words)
+lines-tell : (s : tie.After-slice-known8 Inv-loop μ-loop) {after : List ℕ} (n count : ℕ) → wordsInLine * count ≤ length (lentTo (asked s .ask .result)) → length after ≡ length (turn s .loop .words)
     → Tellable (closedTold n count (asked s .ask .result .lent) (asked s .ask .result .fill)) after
 lines-tell s n count fits same =
     let a = asked s .ask .result in

@@ -12,12 +12,12 @@ use Rattle.refusals.proofs.Ending.{close-refused, close-never}
 use Rattle.book.proofs.Book.close.Statement.{statement}
 use Rattle.book.proofs.Book.close.Tie as tie
 
-close-answer-requires : tie.Need-close-answer-requires
-close-answer-requires c κs = search needs
+close-answer-in-requires : tie.Need-close-answer-in-requires
+close-answer-in-requires c κs = search needs
 
 returns : tie.Need-returns
 returns c = let a = c .before .before .before .args in
-    refused-end (a .self) (c .before .before .before .pre) (a .price) (a .rate) _ (a .lines .now) (close-refused _ _ _ _ _ (sym (c .before .close-answer .ensures)) (c .if1 .taken)) (c .if1 .taken)
+    refused-end (a .self) (c .before .before .before .pre) (a .price) (a .rate) _ (a .lines .now) (close-refused _ _ _ _ _ (sym (c .before .close-answer-in .ensures)) (c .if1 .taken)) (c .if1 .taken)
 
 next-after-requires : tie.Need-next-after-requires
 next-after-requires c κs = search needs
@@ -31,19 +31,19 @@ enum-told c = search needs
 returns-2 : tie.Need-returns-2
 returns-2 c = let a = c .before .before .before .before .before .before .before .before .before .args in
     refused-end (a .self) (c .before .before .before .before .before .before .before .before .before .pre) (a .price) (a .rate) 20 (a .lines .now)
-    (close-never _ _ _ _ (sym (c .before .before .next-after .ensures) ∙ c .enum-told .given .1) (sym (c .before .before .before .before .before .before .before .close-answer .ensures) ∙ c .before .before .before .before .before .before .if1 .left))
+    (close-never _ _ _ _ (sym (c .before .before .next-after .ensures) ∙ c .enum-told .given .1) (sym (c .before .before .before .before .before .before .before .close-answer-in .ensures) ∙ c .before .before .before .before .before .before .if1 .left))
     (λ z. absurd (omega arith))
 
 close-requires : tie.Need-close-requires
 close-requires c κs = let a = c .before .before .before .before .before .before .before .before .before .before .before .args in
-    done-closable (a .self) (c .before .before .before .before .before .before .before .before .before .before .before .pre) (a .price) (a .rate) (a .lines .now) (sym (c .before .before .before .before .before .before .before .before .before .close-answer .ensures) ∙ c .before .before .before .before .before .before .before .before .if1 .left) _ (sym (c .before .before .before .before .next-after .ensures) ∙ c .before .before .next .given .1)
+    done-closable (a .self) (c .before .before .before .before .before .before .before .before .before .before .before .pre) (a .price) (a .rate) (a .lines .now) (sym (c .before .before .before .before .before .before .before .before .before .close-answer-in .ensures) ∙ c .before .before .before .before .before .before .before .before .if1 .left) _ (sym (c .before .before .before .before .next-after .ensures) ∙ c .before .before .next .given .1)
 
 -- after the Close of the ledger: where the call began, that no refusal from the input holds, and the next clearing day
 abbrev start : tie.After-close → tie.Start
 start c = c .before .before .before .before .before .before .before .before .before .before .before .before
 
 passes : (c : tie.After-close) → let a = start c .args in answer (closeRefusalsIn (a .price) (a .rate) (length (a .lines .now))) ≡ 0
-passes c = sym (c .before .before .before .before .before .before .before .before .before .before .close-answer .ensures) ∙ c .before .before .before .before .before .before .before .before .before .if1 .left
+passes c = sym (c .before .before .before .before .before .before .before .before .before .before .close-answer-in .ensures) ∙ c .before .before .before .before .before .before .before .before .before .if1 .left
 
 next-day : (c : tie.After-close) → nextDay (start c .args .self) ≡ At (c .before .before .before .next .given .0 .0)
 next-day c = sym (c .before .before .before .before .before .next-after .ensures) ∙ c .before .before .before .next .given .1
@@ -63,7 +63,7 @@ pub close-spec : {M : Type 1} → statement M
 close-spec =
     tie.close
     (tie.spec
-    close-answer-requires
+    close-answer-in-requires
     returns
     next-after-requires
     enum-known-next

@@ -3,40 +3,35 @@ use Prim.Native.Nat.{ℕ, _<_}
 use native.Mathlib.Omega.{arith}
 use mathlib.Core.Path.{_≡_, refl, sym, ap, ap₂, _∙_}
 use mathlib.Core.Logic.{⊎-elim}
-use borrow.Author.Needs.{needs}
 use Rattle.basics.specs.Refusals.{answer}
 use Rattle.basics.proofs.Refusals.{refused-with, done-by}
 use Rattle.offers.specs.declared.Offers.{Offers}
 use Rattle.ledger.specs.Ledger.{fetched, obligationAt}
-use Rattle.ledger.proofs.Valid.{fetched-sound}
 use Rattle.refusals.specs.Calls.{fetchRefusals, offerRefusalsIn}
 use Rattle.refusals.proofs.Offering.{Offered, offered, offers-few}
 use Rattle.refusals.proofs.Named.{fetch-passed, fetch-number}
 use Rattle.book.specs.declared.Done.{Done}
-use Rattle.book.specs.Book.{withLedger, todayOf}
+use Rattle.book.specs.Book.{withLedger}
 use Rattle.book.specs.Instructing.{doneRefused}
-use Rattle.book.specs.Buying.{offerRefusalsFor, offerNumber, offerDone, offer}
+use Rattle.book.specs.Buying.{offerRefusalsFor, offerAnswerBy, offerDone, offer}
 use Rattle.book.proofs.Answers.{answered}
 use Rattle.book.proofs.Kept.{offer-valid}
 use Rattle.book.proofs.Book.offer.Statement.{statement}
 use Rattle.book.proofs.Book.offer.Tie as tie
 
-abbrev start : tie.After-offer-number → tie.Start
-start c = c .before .before .before .before
+abbrev start : tie.After-offer-answer → tie.Start
+start c = c .before .before .before
 
 -- the answer number, by the obligation that the book fetches
-number : (c : tie.After-offer-number) →
+number : (c : tie.After-offer-answer) →
     let a = start c .args in
     answer (fetchRefusals (offerRefusalsIn (a .supplier) (a .quantity) (a .price)) (fetched (a .self .ledger) (a .obligation)) (offerRefusalsFor (a .self) (a .price)))
-    ≡ c .offer-number .result
-unfolding offerNumber
-number c =
-    let a = start c .args in
-    sym (c .offer-number .ensures
-    ∙ ap (offerNumber (a .self .setup) (todayOf (a .self)) (a .self .ledger .offers .count) (a .supplier) (a .quantity) (a .price)) (c .before .fetch .ensures))
+    ≡ c .offer-answer .result
+unfolding offerAnswerBy
+number c = sym (c .offer-answer .ensures)
 
 -- an offer that is not refused
-passes : (c : tie.After-offer-number) → c .offer-number .result ≡ 0 →
+passes : (c : tie.After-offer-answer) → c .offer-answer .result ≡ 0 →
     let a = start c .args in
     (a .obligation < a .self .ledger .count) × (answer (offerRefusalsIn (a .supplier) (a .quantity) (a .price)) ≡ 0)
     × (answer (offerRefusalsFor (a .self) (a .price) (obligationAt (a .self .ledger) (a .obligation))) ≡ 0)
@@ -47,25 +42,20 @@ passes c e = let a = start c .args in fetch-passed _ (offerRefusalsFor (a .self)
 numbers : (c : tie.Then1) → let a = start (c .before) .args in Offered (a .supplier) (a .quantity) (a .price)
 numbers c = offered _ _ _ (passes (c .before) (c .if1 .taken) .1)
 
-fetch-requires : tie.Need-fetch-requires
-fetch-requires c κs = search needs
+offer-answer-requires : tie.Need-offer-answer-requires
+offer-answer-requires c κs = let h = c .before .before .pre in (h .ledger, h .setup)
 
-offer-number-requires : tie.Need-offer-number-requires
-offer-number-requires c κs =
-    let s = c .before .before .before in
-    (fetched-sound (s .args .self .ledger) (s .pre .ledger) (s .args .obligation) (c .fetch .ensures), s .pre .setup)
+cast-t10 : tie.Need-cast-t10
+cast-t10 c = record { fits = omega (arith, passes (c .before) (c .if1 .taken) .0, start (c .before) .pre .ledger .few) }
 
 cast-t11 : tie.Need-cast-t11
-cast-t11 c = record { fits = omega (arith, passes (c .before) (c .if1 .taken) .0, start (c .before) .pre .ledger .few) }
+cast-t11 c = record { fits = omega (arith, numbers c .supplier-most) }
 
 cast-t12 : tie.Need-cast-t12
-cast-t12 c = record { fits = omega (arith, numbers c .supplier-most) }
+cast-t12 c = record { fits = omega (arith, numbers c .quantity-within .1) }
 
 cast-t13 : tie.Need-cast-t13
-cast-t13 c = record { fits = omega (arith, numbers c .quantity-within .1) }
-
-cast-t14 : tie.Need-cast-t14
-cast-t14 c = record { fits = omega (arith, numbers c .price-within .1) }
+cast-t13 c = record { fits = omega (arith, numbers c .price-within .1) }
 
 insert-requires : tie.Need-insert-requires
 insert-requires c κs = offers-few _ _ _ _ _ _ (passes (c .before) (c .if1 .taken) .2)
@@ -95,11 +85,10 @@ pub offer-spec : {M : Type 1} → statement M
 offer-spec =
     tie.close
     (tie.spec
-    fetch-requires
-    offer-number-requires
+    offer-answer-requires
+    cast-t10
     cast-t11
     cast-t12
     cast-t13
-    cast-t14
     insert-requires
     returns)

@@ -4,7 +4,6 @@ use native.Mathlib.Omega.{arith}
 use mathlib.Core.Path.{_≡_, refl, sym, ap, ap₂, _∙_}
 use mathlib.Core.Bool.{false≢true}
 use mathlib.Core.Logic.{⊎-elim}
-use borrow.Author.Needs.{needs}
 use Rattle.basics.specs.Refusals.{answer}
 use Rattle.basics.proofs.Refusals.{passed, refused-with, done-by}
 use Rattle.instructions.specs.declared.Legs.{Legs}
@@ -42,29 +41,20 @@ unfolding withdrawBy
 done-as b n member Absent e = absurd (absent-some member e)
 done-as b n member (Found l) e = done-by (withdrawRefusals (Found l) member) (withdrawDone b n) (doneRefused b) e
 
--- the answer number, by the leg that the book fetches
-number : (c : tie.After-withdraw-answer) →
-    let a = c .before .before .before .args in
-    answer (withdrawRefusals (fetchedLeg (a .self .legs) (a .leg)) (a .member)) ≡ c .withdraw-answer .result
-number c =
-    let a = c .before .before .before .args in
-    sym (c .withdraw-answer .ensures ∙ ap (λ (f : FetchedLeg). answer (withdrawRefusals f (a .member))) (c .before .fetch .ensures))
-
-fetch-requires : tie.Need-fetch-requires
-fetch-requires c κs = search needs
-
 withdraw-answer-requires : tie.Need-withdraw-answer-requires
-withdraw-answer-requires c κs = search needs
+withdraw-answer-requires c κs = c .before .pre .legs .few
 
 set-state-requires : tie.Need-set-state-requires
-set-state-requires c κs = let s = c .before .before .before .before in there (s .args .self .legs) (s .args .leg) (s .args .member) (s .pre .legs .few) (number (c .before) ∙ c .if1 .taken)
+set-state-requires c κs =
+    let s = c .before .before .before in
+    there (s .args .self .legs) (s .args .leg) (s .args .member) (s .pre .legs .few) (sym (c .before .withdraw-answer .ensures) ∙ c .if1 .taken)
 
 returns : tie.Need-returns
 unfolding withdraw
 returns c =
-    let s = c .before .before .before .before in
+    let s = c .before .before .before in
     let a = s .args in
-    let e = number (c .before) in
+    let e = sym (c .before .withdraw-answer .ensures) in
     let made : ℕ → Legs → Done = λ (k : ℕ) (legs : Legs). record { answer = k; book = withLegs legs (a .self) } in
     answered (λ (r : Done). r .book)
     (⊎-elim
@@ -74,5 +64,4 @@ returns c =
     (withdraw-valid _ (s .pre) (a .leg) (a .member))
 
 pub withdraw-spec : {M : Type 1} → statement M
-withdraw-spec =
-    tie.close (tie.spec fetch-requires withdraw-answer-requires set-state-requires returns)
+withdraw-spec = tie.close (tie.spec withdraw-answer-requires set-state-requires returns)

@@ -9,7 +9,8 @@ use borrow.Author.Needs.{needs}
 use Rattle.basics.specs.Lists.{tableFrom, padded}
 use Rattle.basics.proofs.Everywhere.{every-at}
 use Rattle.basics.proofs.Tables.{table-at}
-use Rattle.closing.specs.Lines.{mostLines, lineAt, linesRead, SoundLine}
+use Rattle.ledger.specs.Lines.{mostLines}
+use Rattle.closing.specs.Lines.{lineAt, linesRead, SoundLine}
 use Rattle.closing.proofs.Lines.{read-length}
 use Rattle.reprint.specs.Kept.{keptLine, noLine}
 use Rattle.reprint.proofs.Keeping.{kept-more}

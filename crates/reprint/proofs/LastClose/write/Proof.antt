@@ -6,6 +6,7 @@ use mathlib.Core.Path.{_≡_, refl, ap, _∙_}
 use lib.ListN.{length}
 use lib.Seq.{sets, length-sets}
 use borrow.Author.Needs.{needs}
+use Rattle.ledger.specs.Lines.{wordsInLine}
 use Rattle.closing.specs.declared.Line.{Line}
 use Rattle.closing.specs.Lines.{wordsOf, flat}
 use Rattle.reprint.proofs.Keeping.{front, wrote-more, wrote-all}
@@ -58,7 +59,7 @@ loop-again c =
     let s = start (turn .before) in (
       omega (arith, turn .loop-test .taken),
       wrote-more (s .args .self .rows) (turn .before .loop .i) (s .args .lines .now) _ _ (omega (arith, placed turn, s .pre .0 .size)) (turn .before .loop .inv .1)
-          (c .before .before .put-line .ensures ∙ ap (λ (l : Line). sets (turn .before .loop .lines) (6 * turn .before .loop .i) (wordsOf l)) (c .before .before .before .line .ensures)),
+          (c .before .before .put-line .ensures ∙ ap (λ (l : Line). sets (turn .before .loop .lines) (wordsInLine * turn .before .loop .i) (wordsOf l)) (c .before .before .before .line .ensures)),
     )
 
 same-length : tie.Need-same-length Inv-loop μ-loop

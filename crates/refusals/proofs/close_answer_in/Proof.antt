@@ -1,10 +1,10 @@
--- `close_answer` meets its contract.
+-- `close_answer_in` meets its contract.
 use mathlib.Core.Path.{sym, _∙_}
 use borrow.Author.Needs.{needs}
 use Rattle.basics.proofs.Refusals.{pass, stop, all-passed}
 use Rattle.refusals.specs.Calls.{closeRefusalsIn}
-use Rattle.refusals.proofs.close_answer.Statement.{statement}
-use Rattle.refusals.proofs.close_answer.Tie as tie
+use Rattle.refusals.proofs.close_answer_in.Statement.{statement}
+use Rattle.refusals.proofs.close_answer_in.Tie as tie
 
 are-bad-rates-requires : tie.Need-are-bad-rates-requires
 are-bad-rates-requires c κs = search needs
@@ -24,5 +24,5 @@ returns-3 : tie.Need-returns-3
 unfolding closeRefusalsIn
 returns-3 c = sym (pass 3 _ (sym (c .before .before .before .are-bad-rates .ensures) ∙ c .before .before .if1 .left) ∙ pass 5 _ (sym (c .before .is-short .ensures) ∙ c .if2 .left) ∙ all-passed)
 
-pub close-answer-spec : {M : Type 1} → statement M
-close-answer-spec = tie.close (tie.spec are-bad-rates-requires returns is-short-requires returns-2 returns-3)
+pub close-answer-in-spec : {M : Type 1} → statement M
+close-answer-in-spec = tie.close (tie.spec are-bad-rates-requires returns is-short-requires returns-2 returns-3)

@@ -1,7 +1,7 @@
 -- `buys_in` meets its contract.
 use borrow.Author.Tests.{lt-ltb, le-ltb}
-use Rattle.ledger.proofs.Terms.buys_in.Statement.{statement}
-use Rattle.ledger.proofs.Terms.buys_in.Tie as tie
+use Rattle.ledger.proofs.buys_in.Statement.{statement}
+use Rattle.ledger.proofs.buys_in.Tie as tie
 
 returns : tie.Need-returns
 returns c = rw (lt-ltb _ _ (c .before .before .if1 .taken))
