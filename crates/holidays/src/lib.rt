@@ -1,5 +1,6 @@
 // The closed days of TARGET. A book is opened with a list of closed days, and the call Target writes this list for a
 // few years. It takes no book.
+use calendar::Day;
 ghost use mathlib.Core.Path.{_≡_};
 ghost use Prim.Native.Nat.{_+_, _*_, _≤_};
 ghost use lib.ListN.{length};
@@ -32,20 +33,20 @@ pub struct DaysWritten {
 
 // The first day of a year. There is one leap year in four, and of the hundredth years only one in four. Before 2000
 // there were 484 leap years by this rule.
-fn new_year(year: u64) -> u64
+fn new_year(year: u64) -> Day
     requires { ⌜ (firstYear ≤ year) × (year ≤ lastYear + 1) ⌝ }
-    ensures { λ r. ⌜ r ≡ newYear year ⌝ }
+    ensures { λ r. ⌜ r .0 ≡ newYear year ⌝ }
 {
     let before = year - 1;
-    365 * (year - FIRST_YEAR) + before / 4 + before / 400 - before / 100 - 484
+    Day(365 * (year - FIRST_YEAR) + before / 4 + before / 400 - before / 100 - 484)
 }
 
 // 1 March of a year. From this day on every year has 306 days.
-fn first_of_march(year: u64) -> u64
+fn first_of_march(year: u64) -> Day
     requires { ⌜ Taken year ⌝ }
-    ensures { λ r. ⌜ r ≡ dateOf year 3 1 ⌝ }
+    ensures { λ r. ⌜ r .0 ≡ dateOf year 3 1 ⌝ }
 {
-    new_year(year + 1) - 306
+    Day(new_year(year + 1).0 - 306)
 }
 
 // The golden number of a year.
@@ -83,25 +84,25 @@ fn epact(year: u64) -> u64
 
 // The paschal full moon of a year. The full moon of March comes 43 days after 1 March, less the epact, and 21 March is
 // 20 days after it.
-fn full_moon(year: u64) -> u64
+fn full_moon(year: u64) -> Day
     requires { ⌜ Taken year ⌝ }
-    ensures { λ r. ⌜ r ≡ fullMoon year ⌝ }
+    ensures { λ r. ⌜ r .0 ≡ fullMoon year ⌝ }
 {
     let march = first_of_march(year);
     let moon = 43 - epact(year);
     if moon < 20 {
-        return march + moon + 30;
+        return Day(march.0 + moon + 30);
     }
-    march + moon
+    Day(march.0 + moon)
 }
 
 // Easter of a year. The remainder says how many days after a Sunday the full moon is.
-fn easter(year: u64) -> u64
+fn easter(year: u64) -> Day
     requires { ⌜ Taken year ⌝ }
-    ensures { λ r. ⌜ r ≡ easter year ⌝ }
+    ensures { λ r. ⌜ r .0 ≡ easter year ⌝ }
 {
     let moon = full_moon(year);
-    moon + 7 - (moon + 6) % 7
+    Day(moon.0 + 7 - (moon.0 + 6) % 7)
 }
 
 // Writes the closed days of a year from a place on. 1 May is 61 days after 1 March, and 25 December is 299 days after
@@ -112,12 +113,12 @@ fn put_year(year: u64, days: &mut [u64], at: usize)
 {
     let march = first_of_march(year);
     let sunday = easter(year);
-    days[at] = new_year(year);
-    days[at + 1] = sunday - 2;
-    days[at + 2] = sunday + 1;
-    days[at + 3] = march + 61;
-    days[at + 4] = march + 299;
-    days[at + 5] = march + 300;
+    days[at] = new_year(year).0;
+    days[at + 1] = sunday.0 - 2;
+    days[at + 2] = sunday.0 + 1;
+    days[at + 3] = march.0 + 61;
+    days[at + 4] = march.0 + 299;
+    days[at + 5] = march.0 + 300;
 }
 
 // Writes the closed days of several years to the front of a list.

@@ -1,4 +1,5 @@
 -- `easter` meets its contract.
+use Prim.Native.Nat.{_≤_}
 use native.Mathlib.Omega.{arith}
 use mathlib.Core.Path.{sym}
 use borrow.Author.Needs.{needs}
@@ -12,22 +13,24 @@ use Rattle.holidays.proofs.easter.Tie as tie
 full-moon-requires : tie.Need-full-moon-requires
 full-moon-requires c κs = search needs
 
-add-result : tie.Need-add-result
-add-result c =
+-- the full moon comes soon after 1 March, which is not above 65,535
+moon-from : (c : tie.After-full-moon) → c .full-moon .result .0 ≤ 65583
+moon-from c =
     let y = c .before .args .year in
     omega (arith, c .full-moon .ensures, moon-span y (c .before .pre .from) .1, march-early y (c .before .pre))
 
-add-result-2 : tie.Need-add-result-2
-add-result-2 c =
-    let y = c .before .args .year in
-    omega (arith, c .full-moon .ensures, moon-span y (c .before .pre .from) .1, march-early y (c .before .pre))
+add-t3 : tie.Need-add-t3
+add-t3 c = omega (arith, moon-from (c .before))
 
-sub-result : tie.Need-sub-result
-sub-result c = search needs
+add-t4 : tie.Need-add-t4
+add-t4 c = omega (arith, moon-from (c .before .before))
+
+sub-t6 : tie.Need-sub-t6
+sub-t6 c = search needs
 
 returns : tie.Need-returns
 unfolding easter
-returns c = rw (c .full-moon .ensures) (sym (sunday-after _))
+returns c = rw (c .before .before .full-moon .ensures) (sym (sunday-after _))
 
 pub easter-spec : {M : Type 1} → statement M
-easter-spec = tie.close (tie.spec full-moon-requires add-result add-result-2 sub-result returns)
+easter-spec = tie.close (tie.spec full-moon-requires add-t3 add-t4 sub-t6 returns)

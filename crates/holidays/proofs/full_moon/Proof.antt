@@ -17,31 +17,31 @@ sub-moon : tie.Need-sub-moon
 sub-moon c = omega (arith, c .epact .ensures, epact-is (c .before .before .args .year) .most)
 
 -- the full moon as a number of days after 1 March
-moon-from : (c : tie.After-epact) → c .before .first-of-march .result + (43 - c .epact .result) ≤ 65578
+moon-from : (c : tie.After-epact) → c .before .first-of-march .result .0 + (43 - c .epact .result) ≤ 65578
 moon-from c =
     let start = c .before .before in
     omega (arith, c .before .first-of-march .ensures, march-early (start .args .year) (start .pre))
 
-add-result : tie.Need-add-result
-add-result c = record { fits = omega (arith, moon-from (c .before)) }
+add-t6 : tie.Need-add-t6
+add-t6 c = record { fits = omega (arith, moon-from (c .before .before)) }
 
-add-result-2 : tie.Need-add-result-2
-add-result-2 c = record { fits = omega (arith, moon-from (c .before)) }
+add-t7 : tie.Need-add-t7
+add-t7 c = record { fits = omega (arith, moon-from (c .before .before)) }
 
 returns : tie.Need-returns
 returns c =
-    let asked = c .before in
+    let asked = c .before .before in
     let march = asked .before in
-    moon-early (march .before .args .year) (march .before .pre .from) _ _ (march .first-of-march .ensures) (asked .epact .ensures) (c .if1 .taken)
+    moon-early (march .before .args .year) (march .before .pre .from) _ _ (march .first-of-march .ensures) (asked .epact .ensures) (c .before .if1 .taken)
 
-add-result-3 : tie.Need-add-result-3
-add-result-3 c = record { fits = omega (arith, moon-from (c .before)) }
+add-t4 : tie.Need-add-t4
+add-t4 c = record { fits = omega (arith, moon-from (c .before .before)) }
 
 returns-2 : tie.Need-returns-2
 returns-2 c =
-    let asked = c .before in
+    let asked = c .before .before in
     let march = asked .before in
-    moon-late (march .before .args .year) (march .before .pre .from) _ _ (march .first-of-march .ensures) (asked .epact .ensures) (c .if1 .left)
+    moon-late (march .before .args .year) (march .before .pre .from) _ _ (march .first-of-march .ensures) (asked .epact .ensures) (c .before .if1 .left)
 
 pub full-moon-spec : {M : Type 1} → statement M
 full-moon-spec =
@@ -50,8 +50,8 @@ full-moon-spec =
     first-of-march-requires
     epact-requires
     sub-moon
-    add-result
-    add-result-2
+    add-t6
+    add-t7
     returns
-    add-result-3
+    add-t4
     returns-2)

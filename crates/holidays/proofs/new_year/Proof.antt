@@ -5,8 +5,8 @@ use Rattle.holidays.proofs.new_year.Statement.{statement}
 use Rattle.holidays.proofs.new_year.Tie as tie
 
 -- the last of the differences is not below zero
-sub-result-3 : tie.Need-sub-result-3
-sub-result-3 c = coded-enough _ (c .pre .0)
+sub-t11 : tie.Need-sub-t11
+sub-t11 c = coded-enough _ (c .pre .0)
 
 returns : tie.Need-returns
 returns c = coded-year _ (c .pre .0)
@@ -17,5 +17,5 @@ new-year-spec =
     (tie.spec
     (λ c. search needs)
     (λ c. search needs) (λ c. search needs) (λ c. search needs) (λ c. search needs) (λ c. search needs)
-    sub-result-3
+    sub-t11
     returns)
