@@ -3,7 +3,7 @@ use Prim.Native.Nat.{ℕ, _+_, _*_}
 use mathlib.Core.List.{List, [], _∷_, _++_}
 use lib.ListN.{getD, take, replicate}
 use Rattle.calendar.specs.Closed.{day}
-use Rattle.ledger.specs.Lines.{wordsInLine}
+use Rattle.ledger.specs.Lines.{wordsInLine, fewestWords}
 use Rattle.closing.specs.Lines.{flat, linesRead}
 use Rattle.book.specs.declared.Book.{Book}
 use Rattle.journal.specs.Calls.{Opening, Call, enter, deliver, offer, close, again, month, Event}
@@ -72,7 +72,7 @@ receives a = enter 1 0 1 10 a (day 2)
 
 -- C1, Close: a Close at a price and a rate, which is lent 1,152 words
 abbrev pub closeAt : ℕ → ℕ → Call
-closeAt price rate = close price rate (replicate 1152 0)
+closeAt price rate = close price rate (replicate fewestWords 0)
 
 -- C17, Close: n Closes, each of which moves today on by one clearing day. They are at par and their penalties are 0.
 abbrev pub daysPass : ℕ → List Call
@@ -146,7 +146,7 @@ twoSales = sale 3 0 200 1000 ++ sale 3 1 100 1000
 
 -- N1, Again: an Again that is lent 1,152 words
 abbrev pub againLent : Call
-againLent = again (replicate 1152 0)
+againLent = again (replicate fewestWords 0)
 
 -- X11, Settled examples: the Close of that day, a Month, and an Again
 abbrev pub reprintPlayed : List ℕ

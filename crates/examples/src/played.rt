@@ -2,10 +2,13 @@
 use crate::compared;
 use book::Book;
 use calendar::Day;
+use ledger::FEWEST_WORDS;
+use ledger::WORDS_IN_LINE;
 ghost use mathlib.Core.Path.{_≡_};
 ghost use mathlib.Core.List.{[], _∷_, _++_};
 ghost use Prim.Native.Nat.{_<_};
 ghost use lib.ListN.{length};
+ghost use Rattle.ledger.specs.Lines.{mostLines, fewestWords};
 ghost use Rattle.book.specs.Book.{Valid};
 ghost use Rattle.journal.specs.Calls.{offer};
 ghost use Rattle.journal.specs.Played.{begun};
@@ -48,7 +51,7 @@ fn day_ends(book: Book, price: u64) -> Book
     ensures { λ r. ⌜ r ≡ bookAfter book (closeAt price 0 ∷ []) ⌝ }
     ensures { λ r. ⌜ Valid r ⌝ }
 {
-    let mut lines = [0u64; 1152];
+    let mut lines = [0u64; FEWEST_WORDS];
     let closed = book.close(price, 0, &mut lines);
     closed.book
 }
@@ -136,10 +139,10 @@ fn with_offer(book: Book, supplier: u64, quantity: u64, price: u64) -> Book
 
 // Compares supplier, quantity and cents in a line of a Close's list with the settled ones. The first line has number 0.
 fn bought(item: u64, lines: &[u64], line: usize, supplier: u64, quantity: u64, cents: u64) -> u64
-    requires { ⌜ (line < 192) × (length (now lines) ≡ 1152) × (boughtAt line (now lines) ≡ supplier ∷ quantity ∷ cents ∷ []) ⌝ }
+    requires { ⌜ (line < mostLines) × (length (now lines) ≡ fewestWords) × (boughtAt line (now lines) ≡ supplier ∷ quantity ∷ cents ∷ []) ⌝ }
     ensures { λ r. ⌜ r ≡ 0 ⌝ }
 {
-    let at = 6 * line;
+    let at = WORDS_IN_LINE * line;
     compared(item, lines[at + 4], supplier)
         + compared(item, lines[at + 2], quantity)
         + compared(item, lines[at + 3], cents)
@@ -152,7 +155,7 @@ pub fn auction() -> u64
     let first = with_offer(in_buy_in(100_000), 1, 7, 101_000);
     let second = with_offer(first, 2, 5, 100_500);
     let third = with_offer(second, 3, 7, 101_000);
-    let mut lines = [0u64; 1152];
+    let mut lines = [0u64; FEWEST_WORDS];
     let closed = third.close(100_000, 0, &mut lines);
     compared(10, closed.count as u64, 3)
         + bought(10, &lines, 1, 2, 5, 2_500)
@@ -165,7 +168,7 @@ pub fn equal_prices() -> u64
 {
     let first = with_offer(in_buy_in(100_000), 1, 10, 101_000);
     let second = with_offer(first, 2, 12, 101_000);
-    let mut lines = [0u64; 1152];
+    let mut lines = [0u64; FEWEST_WORDS];
     let closed = second.close(100_000, 0, &mut lines);
     compared(14, closed.count as u64, 2) + bought(14, &lines, 1, 1, 10, 10_000)
 }
@@ -176,7 +179,7 @@ fn closed_once() -> Book
     ensures { λ r. ⌜ Valid r ⌝ }
 {
     let sold = with_sale(with_sale(opened(), 3, 0, 200, 1_000), 3, 1, 100, 1_000);
-    let mut lines = [0u64; 1152];
+    let mut lines = [0u64; FEWEST_WORDS];
     let closed = sold.close(100_000, 10, &mut lines);
     closed.book
 }
@@ -190,7 +193,7 @@ pub fn reprint() -> u64
     let mut payouts = [7u64; 32];
     let paid = closed_once().month(&collected, &mut payouts);
     let after = paid.book;
-    let mut lines = [0u64; 1152];
+    let mut lines = [0u64; FEWEST_WORDS];
     let shown = after.again(&mut lines);
     compared(11, shown.count as u64, 2) + compared(11, lines[3], 200) + compared(11, lines[9], 100)
 }

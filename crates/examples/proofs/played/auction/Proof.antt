@@ -5,6 +5,7 @@ use mathlib.Core.Path.{_≡_, ap, _∙_}
 use mathlib.Core.List.{List, [], _∷_, _++_}
 use lib.ListN.{getD, replicate}
 use Rattle.closing.specs.Lines.{flat}
+use Rattle.ledger.specs.Lines.{fewestWords}
 use Rattle.book.specs.declared.Book.{Book}
 use Rattle.book.specs.declared.Closed.{Closed}
 use Rattle.book.specs.Close.{close, closeWords}
@@ -33,7 +34,7 @@ offered c =
 
 -- the list of the Close, as it ends
 listed : (c : tie.After-close) → c .close .last .1 .1 .1 .0 ≡ listAfter auctionOffers
-listed c = c .close .ensures .1 .0 ∙ ap (λ (b : Book). closeWords b 100000 0 (replicate 1152 0)) (offered c)
+listed c = c .close .ensures .1 .0 ∙ ap (λ (b : Book). closeWords b 100000 0 (replicate fewestWords 0)) (offered c)
 
 bought-requires : tie.Need-bought-requires
 bought-requires c κs = (omega arith, search (length-mapped, needs), ap (boughtAt 1) (listed (c .before .before .before)) ∙ example-10-lines .0)
@@ -46,7 +47,7 @@ returns : tie.Need-returns
 unfolding flat
 returns c =
     let closed = c .before .before .before .before .before .before in
-    let count = closed .close .ensures .0 ∙ ap (λ (b : Book). close b 100000 0 1152) (offered closed) in
+    let count = closed .close .ensures .0 ∙ ap (λ (b : Book). close b 100000 0 fewestWords) (offered closed) in
     omega (
       arith,
       none-differs (ap (λ (k : Closed). k .count) count ∙ ap (λ (l : List ℕ). getD l 17 0) example-10) (c .before .before .before .before .compared .ensures .0),

@@ -1,5 +1,6 @@
 -- `closed_once` meets its contract.
 use mathlib.Core.Path.{ap, _∙_}
+use Rattle.ledger.specs.Lines.{fewestWords}
 use Rattle.book.specs.declared.Book.{Book}
 use Rattle.book.specs.declared.Closed.{Closed}
 use Rattle.book.specs.Close.{close}
@@ -27,7 +28,7 @@ returns : tie.Need-returns
 returns c =
     let one = c .before .before .before .before .before .with-sale .ensures .0 ∙ ap (λ (b : Book). bookAfter b (sale 3 0 200 1000)) (c .before .before .before .before .before .before .opened .ensures .0) in
     let two = c .before .before .before .before .with-sale2 .ensures .0 ∙ ap (λ (b : Book). bookAfter b (sale 3 1 100 1000)) one in
-    (ap (λ (k : Closed). k .book) (c .before .before .close .ensures .0 ∙ ap (λ (b : Book). close b 100000 10 1152) two), search needs)
+    (ap (λ (k : Closed). k .book) (c .before .before .close .ensures .0 ∙ ap (λ (b : Book). close b 100000 10 fewestWords) two), search needs)
 
 pub closed-once-spec : {M : Type 1} → statement M
 closed-once-spec =

@@ -5,6 +5,7 @@ use mathlib.Core.Path.{_≡_, ap, _∙_}
 use mathlib.Core.List.{List, [], _∷_, _++_}
 use lib.ListN.{getD, replicate}
 use Rattle.closing.specs.Lines.{flat}
+use Rattle.ledger.specs.Lines.{fewestWords}
 use Rattle.book.specs.declared.Book.{Book}
 use Rattle.book.specs.declared.Closed.{Closed}
 use Rattle.book.specs.Close.{close, closeWords}
@@ -31,14 +32,14 @@ offered c =
 bought-requires : tie.Need-bought-requires
 bought-requires c κs =
     let closed = c .before .before .before in
-    let list = closed .close .ensures .1 .0 ∙ ap (λ (b : Book). closeWords b 100000 0 (replicate 1152 0)) (offered closed) in
+    let list = closed .close .ensures .1 .0 ∙ ap (λ (b : Book). closeWords b 100000 0 (replicate fewestWords 0)) (offered closed) in
     (omega arith, search (length-mapped, needs), ap (boughtAt 1) list ∙ example-14-line)
 
 returns : tie.Need-returns
 unfolding flat
 returns c =
     let closed = c .before .before .before .before in
-    let count = closed .close .ensures .0 ∙ ap (λ (b : Book). close b 100000 0 1152) (offered closed) in
+    let count = closed .close .ensures .0 ∙ ap (λ (b : Book). close b 100000 0 fewestWords) (offered closed) in
     omega (
       arith,
       none-differs (ap (λ (k : Closed). k .count) count ∙ ap (λ (l : List ℕ). getD l 16 0) example-14) (c .before .before .compared .ensures .0),

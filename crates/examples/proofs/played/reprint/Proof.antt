@@ -4,6 +4,7 @@ use Prim.Native.Nat.{ℕ}
 use mathlib.Core.Path.{ap, _∙_}
 use mathlib.Core.List.{List, _∷_}
 use lib.ListN.{getD, replicate}
+use Rattle.ledger.specs.Lines.{fewestWords}
 use Rattle.book.specs.declared.Book.{Book}
 use Rattle.book.specs.declared.Done.{Done}
 use Rattle.book.specs.declared.Closed.{Closed}
@@ -64,8 +65,8 @@ add-result-2 c = search needs
 returns : tie.Need-returns
 returns c =
     let book = ap (λ (d : Done). d .book) (c .before .before .before .before .before .before .before .before .month .ensures .0 ∙ ap (λ (b : Book). month b collected 32) (c .before .before .before .before .before .before .before .before .before .before .before .closed-once .ensures .0)) in
-    let shown = (c .before .before .before .before .again .ensures .0) ∙ ap (λ (b : Book). again b 1152) book in
-    let words = c .before .before .before .before .again .ensures .1 .0 ∙ ap (λ (b : Book). againWords b (replicate 1152 0)) book in
+    let shown = (c .before .before .before .before .again .ensures .0) ∙ ap (λ (b : Book). again b fewestWords) book in
+    let words = c .before .before .before .before .again .ensures .1 .0 ∙ ap (λ (b : Book). againWords b (replicate fewestWords 0)) book in
     omega (
       arith,
       none-differs (ap (λ (r : Closed). r .count) shown ∙ ap (λ (l : List ℕ). getD l 0 0) example-11-words) (c .before .before .compared .ensures .0),
