@@ -124,6 +124,12 @@ pub record Promise (s : Run) : Type 1 where
   pub look : (m : ℕ) → m < memberCount → (t : Looked) → LookCalled (s .book) m t → LookShows (s .opening) (s .past) m t
   -- J16: Again, called after the list with any lent list, gives what the latest accepted Close gave
   pub again : (ws us : List ℕ) (t : Closed) → AgainCalled (s .book) ws t us → AgainShows (s .past) ws us t
+  -- L5 and N5: Status, Account, Look and Again, called after the list, return the book that they were given, whatever their
+  -- arguments and lent lists are
+  pub status-same : (n : ℕ) (t : Shown) → StatusCalled (s .book) n t → t .book ≡ s .book
+  pub account-same : (m : ℕ) (t : Balance) → AccountCalled (s .book) m t → t .book ≡ s .book
+  pub look-same : (m : ℕ) (t : Looked) → LookCalled (s .book) m t → t .book ≡ s .book
+  pub again-same : (ws us : List ℕ) (t : Closed) → AgainCalled (s .book) ws t us → t .book ≡ s .book
   -- J13 and J14: each accepted Month pays out just what it collected, and each creditor gets its share
   pub months : EveryMonth (s .past)
   -- J17: after the list, a Month that is given what each member owes by the events ends as an empty one does

@@ -1,7 +1,7 @@
 -- What a call does: one record for all that is proved of it, and what holds of a call that changes legs or offers alone.
-use Prim.Native.Nat.{ℕ, _*_, _≤_}
+use Prim.Native.Nat.{ℕ, _*_, _≤_, _<_}
 use native.Mathlib.Omega.{arith}
-use mathlib.Core.Path.{_≡_, refl}
+use mathlib.Core.Path.{_≡_, refl, ap}
 use mathlib.Core.Bool.{true, false}
 use mathlib.Core.List.{List, [], _++_}
 use mathlib.Core.Option.{none, some}
@@ -16,6 +16,8 @@ use Rattle.offers.specs.Rank.{ranked}
 use Rattle.offers.specs.Held.{listed}
 use Rattle.instructions.specs.Legs.{entered}
 use Rattle.ledger.specs.Lines.{wordsInLine}
+use Rattle.ledger.specs.declared.Ledger.{Ledger}
+use Rattle.ledger.specs.Ledger.{obligationAt}
 use Rattle.reprint.specs.Kept.{keptFrom}
 use Rattle.payments.specs.Month.{payoutsOf}
 use Rattle.book.specs.declared.Book.{Book}
@@ -29,11 +31,15 @@ use Rattle.journal.specs.Calls.{Call}
 use Rattle.journal.specs.Played.{Outcome, eventWith}
 use Rattle.journal.specs.Facts.{LegChange, neither, Instructed, instructs, Ended, isEnd, reported, Facts, noFacts, factsOf, facts}
 use Rattle.journal.specs.Sums.{isMonth}
-use Rattle.journal.specs.History.{legsAfter}
+use Rattle.journal.specs.History.{legsAfter, amountBy}
 use Rattle.journal.proofs.Moves.{Moves}
 use Rattle.journal.proofs.Steps.{moves-within, plain, plain-untold}
 use Rattle.journal.proofs.RecalledLegs.{Proper}
 use Rattle.journal.proofs.Rows.{rows-same}
+
+-- what the change of the legs tells of the amounts of new obligations
+abbrev pub NewAmounts : Book → Book → LegChange → Type 0
+NewAmounts b after c = (n : ℕ) → b .ledger .count ≤ n → n < after .ledger .count → amountBy n c (entered (b .legs)) ≡ some (obligationAt (after .ledger) n .deal .amount)
 
 -- what a call leaves of what a book stores: b is the book before it, after the book behind it, f what its event says
 pub record Leaves (b after : Book) (f : Facts) : Type 0 where
@@ -42,6 +48,7 @@ pub record Leaves (b after : Book) (f : Facts) : Type 0 where
   pub last : after .last ≡ pick (isEnd (f .ends)) (keptFrom (reported (f .ends))) (b .last)
   pub offers : (xs : List Offer) → listed (b .ledger .offers) ≡ ranked xs → listed (after .ledger .offers) ≡ ranked (pick (isEnd (f .ends)) [] (f .offers ++ xs))
   pub legs : entered (after .legs) ≡ legsAfter (f .legs) (entered (b .legs))
+  pub amounts : NewAmounts b after (f .legs)
   pub proper : Proper (f .legs) (entered (b .legs))
 
 -- what is known of a call that ended the day: at which end of the book's day it was, that the lines are those of the
@@ -108,6 +115,7 @@ does-nothing b after words v setup day legs ledger last =
       last = last;
       offers = λ xs e. rw ledger e;
       legs = rw legs;
+      amounts = λ k below above. absurd (omega (arith, below, above, ap (λ (l : Ledger). l .count) ledger));
       proper = tt;
     }) (λ n i e. absurd (no-some e))
 

@@ -7,7 +7,7 @@ use mathlib.Core.List.{List, [], _∷_, _++_}
 use mathlib.Core.Option.{none, some}
 use lib.Dec.{eqb}
 use lib.ListN.{length, getD, set}
-use lib.Seq.{getD-take, length-take-le}
+use lib.Seq.{getD-take, getD-set-same, length-take-le}
 use borrow.Author.Tests.{eq-eqb, ne-eqb, not-false}
 use Rattle.basics.specs.Choice.{pick}
 use Rattle.basics.specs.Lists.{total}
@@ -23,11 +23,12 @@ use Rattle.instructions.specs.declared.LegState.the-variants.{Waiting, Withdraw
 use Rattle.instructions.specs.declared.Fit.{Fit}
 use Rattle.instructions.specs.declared.Fit.the-variants.{With, Nobody}
 use Rattle.instructions.specs.Legs.{noLeg, inState, legAt, entered, withState}
-use Rattle.instructions.specs.Match.{lowestFit, fits}
+use Rattle.instructions.specs.Match.{delivering, lowestFit, fits}
 use Rattle.instructions.proofs.Keeping.{entered-with, entered-state, valid-state}
 use Rattle.instructions.proofs.Matching.{found-below, fits-all}
 use Rattle.ledger.specs.declared.Part.{Part}
 use Rattle.ledger.specs.declared.Part.the-variants as part
+use Rattle.ledger.specs.Obligations.{noObligation}
 use Rattle.ledger.specs.Ledger.{mostObligations, withNew}
 use Rattle.ledger.proofs.Moving.{part-by}
 use Rattle.closing.specs.Close.{closeLines}
@@ -83,6 +84,7 @@ module _ (b : Book) (v : Valid b) where
         last = refl;
         offers = λ xs q. q;
         legs = entered-into leg Withdrawn h;
+        amounts = λ k below above. absurd (omega arith);
         proper = omega (arith, entered-length);
       }) (λ n i e. absurd (no-some e)))
 
@@ -149,6 +151,7 @@ module _ (b : Book) (v : Valid b) where
         last = refl;
         offers = λ xs p. p;
         legs = rw e (entered-with (b .legs) (v .legs) new (g .room));
+        amounts = λ k below above. absurd (omega arith);
         proper = (sym entered-length, fresh, rw e refl);
       }) (due-later new 0 (g .from-today))
   entered-does new (With k) g fresh e w =
@@ -168,6 +171,11 @@ module _ (b : Book) (v : Valid b) where
         legs = rw (e, number)
             (entered-with (withState k (Matched n) (b .legs)) w' (inState (Matched n) new) (g .room)
             ∙ ap (λ (x : List Leg). x ++ inState (Matched n) new ∷ []) (entered-into k (Matched n) (f .0)));
+        amounts = λ m h l.
+            let q : m ≡ n = omega (arith, h, l) in
+            rw (q, eq-eqb (n + 1) (n + 1) refl, e)
+            (ap (λ (x : Leg). some (delivering new x .amount)) (entered-at k (f .0))
+            ∙ rw (getD-set-same (b .ledger .obligations) n (obligationOf new old) noObligation (omega (arith, room, v .ledger .size))));
         proper = (sym entered-length, fresh, rw e (omega (arith, entered-length, f .0), λ z. omega arith));
       }) (due-later new (n + 1) (g .from-today))
 
@@ -183,10 +191,10 @@ module _ (b : Book) (v : Valid b) where
   -- ---- Deliver and Cancel
   -- a call that changes some rows: what of them moves to each part, and whose wish it is
   rows-does : (after : Book) (f : Part → ℕ → ℕ) (w : ℕ → ℕ → Bool) → Valid after → after .setup ≡ b .setup → after .day ≡ b .day → after .legs ≡ b .legs → after .last ≡ b .last →
-      after .ledger .offers ≡ b .ledger .offers → after .ledger .accounts ≡ b .ledger .accounts → Rows b after (onlyMoves f w) → Does b after (onlyMoves f w) []
-  rows-does after f w v' setup day legs last offers accounts rows = record {
+      after .ledger .count ≡ b .ledger .count → after .ledger .offers ≡ b .ledger .offers → after .ledger .accounts ≡ b .ledger .accounts → Rows b after (onlyMoves f w) → Does b after (onlyMoves f w) []
+  rows-does after f w v' setup day legs last count offers accounts rows = record {
     moves = moves-within b after (onlyMoves f w) refl refl v' setup (rw day) accounts rows;
-    leaves = record { close-since = rw day; has-closed = rw day; last = last; offers = λ xs p. rw offers p; legs = rw legs; proper = tt };
+    leaves = record { close-since = rw day; has-closed = rw day; last = last; offers = λ xs p. rw offers p; legs = rw legs; amounts = λ k below above. absurd (omega (arith, count)); proper = tt };
     due = λ k i e. absurd (no-some e);
     closes = λ d e. absurd (no-some e);
     pays = λ cs e. absurd (no-some e);
@@ -197,14 +205,14 @@ module _ (b : Book) (v : Valid b) where
   deliver-does n q =
       laws.Outcomes.deliver-case b (λ (x : Delivered). Valid (x .book) → DoesAs b (Call.deliver n q) (ofDelivered x)) n q
       (λ i z w. refused-does b v (Call.deliver n q) i (0 ∷ []) [] z)
-      (λ h e w. rows-does _ _ _ w refl refl refl refl refl refl (rows-moved b v part.Delivered n q h))
+      (λ h e w. rows-does _ _ _ w refl refl refl refl refl refl refl (rows-moved b v part.Delivered n q h))
 
   cancel-does : (n member : ℕ) → Valid (outcome b (Call.cancel n member) .book) → DoesAs b (Call.cancel n member) (outcome b (Call.cancel n member))
   unfolding cancelRefusalsOf
   cancel-does n member =
       laws.Outcomes.cancel-case b (λ (x : Cancelled). Valid (x .book) → DoesAs b (Call.cancel n member) (ofCancelled x)) n member
       (λ i z w. refused-does b v (Call.cancel n member) i (0 ∷ []) [] z)
-      (λ h e w. rows-does _ _ _ w refl refl refl refl refl refl (rows-wished b v n member h (not-false _ (or-false (passed 14 _ _ e refl .0) .0))))
+      (λ h e w. rows-does _ _ _ w refl refl refl refl refl refl refl (rows-wished b v n member h (not-false _ (or-false (passed 14 _ _ e refl .0) .0))))
 
   -- ---- Offer
   offer-does : (n supplier q price : ℕ) → Valid (outcome b (Call.offer n supplier q price) .book) → DoesAs b (Call.offer n supplier q price) (outcome b (Call.offer n supplier q price))
@@ -218,6 +226,7 @@ module _ (b : Book) (v : Valid b) where
         last = refl;
         offers = λ xs p. ranked-with (b .ledger .offers) _ (offers-few _ _ _ _ _ _ f) (v .ledger .offers .size) xs p;
         legs = refl;
+        amounts = λ k below above. absurd (omega arith);
         proper = tt;
       }) (λ k i e. absurd (no-some e)))
 
@@ -230,7 +239,7 @@ module _ (b : Book) (v : Valid b) where
       let ls = closeLines d (b .ledger) in
       rw (lines-back ls ws, ← s) (record {
         moves = moves-close b v d e next q;
-        leaves = record { close-since = refl; has-closed = refl; last = refl; offers = λ xs p. listed-none; legs = refl; proper = tt };
+        leaves = record { close-since = refl; has-closed = refl; last = refl; offers = λ xs p. listed-none; legs = refl; amounts = λ k below above. absurd (omega arith); proper = tt };
         due = λ n i e. absurd (no-some e);
         closes = λ x p. let same : record { price = d .price; lines = ls } ≡ x = cc in
             rw (← same) (record { end = d; ends = e; price = refl; lines = refl; next = next; on = q; legs = refl });
@@ -254,7 +263,7 @@ module _ (b : Book) (v : Valid b) where
       (λ z. refused-does b v (Call.month cs ps) (monthAnswer b cs (length ps)) [] ps z)
       (λ e. record {
         moves = moves-month b v cs;
-        leaves = record { close-since = refl; has-closed = refl; last = refl; offers = λ xs p. p; legs = refl; proper = tt };
+        leaves = record { close-since = refl; has-closed = refl; last = refl; offers = λ xs p. p; legs = refl; amounts = λ k below above. absurd (omega arith); proper = tt };
         due = λ n i e. absurd (no-some e);
         closes = λ d e. absurd (no-some e);
         pays = λ ds s. let same : cs ≡ ds = cc in rw (← same) (record { places = length ps; accepted = e; payouts = refl });

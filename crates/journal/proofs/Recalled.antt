@@ -14,14 +14,16 @@ use Rattle.offers.proofs.Ranking.{ranked-in-order}
 use Rattle.instructions.specs.declared.Leg.{Leg}
 use Rattle.instructions.specs.declared.LegState.the-variants.{Waiting}
 use Rattle.instructions.specs.Legs.{isWaiting, noLeg, inState, legAt, entered}
+use Rattle.ledger.specs.declared.Part.{Part}
+use Rattle.ledger.specs.Parts.{partOf}
 use Rattle.ledger.specs.Ledger.{obligationAt}
 use Rattle.reprint.specs.Kept.{keptFrom}
 use Rattle.book.specs.Book.{ageOf}
 use Rattle.journal.specs.Calls.{Run}
-use Rattle.journal.specs.Sums.{todayIn, instructedIn, wishedIn, gracePriceIn}
-use Rattle.journal.specs.History.{closeSinceIn, latestClose, wasClose, latestLines, offersIn, legsIn, legIn, waitingIn}
+use Rattle.journal.specs.Sums.{setupIn, todayIn, instructedIn, partIn, wishedIn, gracePriceIn}
+use Rattle.journal.specs.History.{closeSinceIn, latestClose, wasClose, latestLines, offersIn, legsIn, amountIn, legIn, waitingIn}
 use Rattle.journal.specs.Promise.{EveryCapPrice}
-use Rattle.journal.proofs.Moves.{Agrees}
+use Rattle.journal.proofs.Moves.{Agrees, parts-are}
 use Rattle.journal.proofs.Rows.{instructedAt}
 use Rattle.journal.proofs.CapPrices.{known-capped}
 use Rattle.journal.proofs.Model.{Known}
@@ -30,8 +32,11 @@ use Rattle.journal.proofs.Theorem.{known}
 use Rattle.journal.proofs.Every.{entered-length, entered-at}
 use Rattle.journal.proofs.Recalling.{RunRecalls, known-recalls}
 
--- What the rules word by what happened before: each thing of this kind that a book stores is what its Open and events tell.
+-- Each thing that a book stores is what its Open and its events tell. The accounts and what is outstanding are those of the
+-- promise.
 pub record Remembered (s : Run) : Type 0 where
+  -- O5 and O6, Open: the closed days and the terms
+  pub setup : s .book .setup ≡ setupIn (s .opening)
   -- C17, Close: today
   pub today : s .book .day .today ≡ todayIn (s .opening) (s .past)
   -- R21, Refusals: whether a Close was accepted since Open or since the last accepted Month
@@ -39,6 +44,12 @@ pub record Remembered (s : Run) : Type 0 where
   -- R22, Refusals, and N2, Again: whether a Close was accepted since Open, and the lines of the latest one
   pub has-closed : s .book .day .«has_closed» ≡ wasClose (latestClose (s .past))
   pub last : s .book .last ≡ keptFrom (latestLines (latestClose (s .past)))
+  -- J4, Whole journals, and E8, Enter: what each obligation was instructed to be, and its amount; there are no others
+  pub deal : (n : ℕ) → n < s .book .ledger .count → instructedIn n (s .past) ≡ some (instructedAt (obligationAt (s .book .ledger) n))
+  pub amount : (n : ℕ) → n < s .book .ledger .count → amountIn n (s .past) ≡ some (obligationAt (s .book .ledger) n .deal .amount)
+  pub no-deal : (n : ℕ) → s .book .ledger .count ≤ n → instructedIn n (s .past) ≡ none
+  -- J6 to J9, Whole journals: what became of its quantity
+  pub part : (n : ℕ) → n < s .book .ledger .count → (k : Part) → partOf k (obligationAt (s .book .ledger) n .parts) ≡ partIn k n (s .past)
   -- B9, Buy-in: the price of the Close at age = grace, where something is outstanding
   pub grace-price : (n : ℕ) → n < s .book .ledger .count → 0 < obligationAt (s .book .ledger) n .parts .outstanding →
       obligationAt (s .book .ledger) n .stage .«grace_price» ≡ gracePriceIn (s .opening) n (s .past)
@@ -70,7 +81,12 @@ told s g k p =
     let row : (n : ℕ) → n < s .book .legs .count → getD (legsIn (s .past)) n noLeg ≡ legAt (s .book .legs) n =
     λ n h. ap (λ (ls : List Leg). getD ls n noLeg) (sym (k .legs)) ∙ entered-at (s .book) v n h in
     record {
+      setup = g .setup;
       today = g .today;
+      deal = λ n h. rw (← g .instructed n, there n h);
+      amount = λ n h. rw (← k .amounts n, there n h);
+      no-deal = λ n h. rw (← g .instructed n, le-ltb n (l .count) h);
+      part = λ n h j. sym (parts-are (s .opening) (s .book) (s .past) g n h j);
       close-since = k .close-since;
       has-closed = k .has-closed;
       last = k .last;

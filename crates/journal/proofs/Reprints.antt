@@ -20,6 +20,7 @@ use Rattle.refusals.proofs.Ending.{again-short, again-before, again-after}
 use Rattle.book.specs.declared.Book.{Book}
 use Rattle.book.specs.declared.Closed.{Closed}
 use Rattle.book.specs.Close.{closeRefused}
+use Rattle.book.proofs.Outcomes.{again-case}
 use Rattle.book.specs.Again.{againAnswer, againDone, again, againWords}
 use Rattle.journal.specs.Calls.{Call, Event}
 use Rattle.journal.specs.Facts.{Ended, isEnd, reported, noFacts, factsOf, facts}
@@ -110,3 +111,9 @@ module _ (b : Book) (es : List Event) (k : Recalls b es) (ws us : List ℕ) (t :
 -- what its contract tells
 pub again-learnt : {b : Book} {ws us : List ℕ} {t : Closed} → AgainCalled b ws t us → (t ≡ again b (length ws)) × (us ≡ againWords b ws)
 again-learnt (AgainCalled.called κs lines t x h) = (h .0, h .1 .0)
+
+-- it returns the book that it was given
+pub again-returns : {b : Book} {ws us : List ℕ} {t : Closed} → AgainCalled b ws t us → t .book ≡ b
+again-returns {b} {ws} c =
+    ap (λ (x : Closed). x .book) (again-learnt c .0)
+    ∙ again-case b (λ (x : Closed) (vs : List ℕ). x .book ≡ b) ws (λ k z. refl) (λ e. refl)

@@ -12,13 +12,13 @@ use Rattle.basics.specs.Lists.{table}
 use Rattle.basics.specs.Refusals.{refuse, answer}
 use Rattle.basics.proofs.Cases.{and-true}
 use Rattle.basics.proofs.Tables.{is-table}
-use Rattle.basics.proofs.Refusals.{pass, all-passed, done-by}
+use Rattle.basics.proofs.Refusals.{pass, all-passed, done-by, by-number}
 use Rattle.calendar.specs.declared.Day.{Day}
 use Rattle.netting.specs.Accounts.{balance}
 use Rattle.ledger.specs.Ledger.{obligationAt, fetched}
 use Rattle.ledger.proofs.Valid.{below-found}
 use Rattle.netting.specs.Accounts.{noMember}
-use Rattle.refusals.proofs.Named.{found-done}
+use Rattle.refusals.proofs.Named.{found-done, fetch-case}
 use Rattle.book.specs.declared.Book.{Book}
 use Rattle.book.specs.declared.Shown.{Shown}
 use Rattle.book.specs.declared.Balance.{Balance}
@@ -103,6 +103,15 @@ module _ (o : Opening) (b : Book) (es : List Event) (g : Agrees o b es) where
       let zero : answer (refuse 1 (noMember m) ∷ []) ≡ 0 = pass 1 [] (le-ltb 31 m (omega arith)) ∙ all-passed in
       record { accepted = l .number ∙ zero; late = late-shown (l .choice zero) }
 
+-- ---- the book that they return is the one that they were given
+status-book : (b : Book) (n : ℕ) → status b n .book ≡ b
+unfolding status
+status-book b n = fetch-case [] (λ o. []) (statusDone b) (statusRefused b) (λ (t : Shown). t .book ≡ b) (b .ledger) n refl (λ k z. refl) (λ h i j. refl)
+
+account-book : (b : Book) (m : ℕ) → account b m .book ≡ b
+unfolding account
+account-book b m = by-number (λ (t : Balance). t .book ≡ b) (answer (refuse 1 (noMember m) ∷ [])) _ (accountRefused b) (λ z. refl) (λ e. refl)
+
 -- ---- what their contracts tell
 pub status-learnt : {b : Book} {n : ℕ} {t : Shown} → StatusCalled b n t → t ≡ status b n
 status-learnt (StatusCalled.called x h) = h .0
@@ -112,3 +121,12 @@ account-learnt (AccountCalled.called x h) = h .0
 
 pub look-learnt : {b : Book} {m : ℕ} {t : Looked} → LookCalled b m t → Looks b m t
 look-learnt (LookCalled.called x h) = h .0
+
+pub status-returns : {b : Book} {n : ℕ} {t : Shown} → StatusCalled b n t → t .book ≡ b
+status-returns {b} {n} c = ap (λ (x : Shown). x .book) (status-learnt c) ∙ status-book b n
+
+pub account-returns : {b : Book} {m : ℕ} {t : Balance} → AccountCalled b m t → t .book ≡ b
+account-returns {b} {m} c = ap (λ (x : Balance). x .book) (account-learnt c) ∙ account-book b m
+
+pub look-returns : {b : Book} {m : ℕ} {t : Looked} → LookCalled b m t → t .book ≡ b
+look-returns c = look-learnt c .same

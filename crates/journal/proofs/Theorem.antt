@@ -17,9 +17,9 @@ use Rattle.journal.proofs.Model.{Known, begun-known, step-known, played
 use Rattle.journal.proofs.Months.{debts-agree}
 use Rattle.journal.proofs.CapPrices.{known-capped}
 use Rattle.journal.proofs.BuyIns.{known-bought}
-use Rattle.journal.proofs.Showing.{status-shows, account-shows, all-shown, look-shows, status-learnt, account-learnt, look-learnt}
+use Rattle.journal.proofs.Showing.{status-shows, account-shows, all-shown, look-shows, status-learnt, account-learnt, look-learnt, status-returns, account-returns, look-returns}
 use Rattle.journal.proofs.Recalling.{known-recalls}
-use Rattle.journal.proofs.Reprints.{again-shows, again-learnt}
+use Rattle.journal.proofs.Reprints.{again-shows, again-learnt, again-returns}
 use Rattle.journal.proofs.Demand3.{Called, Ran, May, SameAsEmpty, Promise, Demand3}
 
 -- ---- by its contract, a call answers what the rules give
@@ -77,6 +77,10 @@ promised s ran =
       zero-sum = λ t c. all-shown (s .opening) (s .book) (s .past) g t (λ m h. account-learnt (c m h));
       look = λ m h t c. look-shows (s .opening) (s .book) (s .past) g m h t (look-learnt c);
       again = λ ws us t c. again-shows (s .book) (s .past) (known-recalls s k) ws us t (again-learnt c);
+      status-same = λ n t c. status-returns c;
+      account-same = λ m t c. account-returns c;
+      look-same = λ m t c. look-returns c;
+      again-same = λ ws us t c. again-returns c;
       months = k .months;
       typed-or-empty = subst⁻¹ (SameAsEmpty (s .book)) (debts-agree (s .opening) (s .book) (s .past) g) (same-as-empty (s .book) v);
       buy-ins = known-bought s k;

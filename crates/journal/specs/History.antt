@@ -1,5 +1,5 @@
 -- What a book stores beside its obligations, said by the events alone. Events stand the latest first.
-use Prim.Native.Nat.{ℕ, _-_}
+use Prim.Native.Nat.{ℕ, _+_, _-_}
 use mathlib.Core.Bool.{Bool, true, false, _&&_, not}
 use mathlib.Core.List.{List, [], _∷_, _++_}
 use mathlib.Core.Option.{Option, none, some}
@@ -13,7 +13,7 @@ use Rattle.instructions.specs.declared.LegState.the-variants.{Withdrawn, Matche
 use Rattle.instructions.specs.declared.Fit.{Fit}
 use Rattle.instructions.specs.declared.Fit.the-variants.{With, Nobody}
 use Rattle.instructions.specs.Legs.{noLeg, inState}
-use Rattle.instructions.specs.Match.{firstFit}
+use Rattle.instructions.specs.Match.{delivering, firstFit}
 use Rattle.closing.specs.declared.Line.{Line}
 use Rattle.journal.specs.Calls.{Event}
 use Rattle.journal.specs.Facts.{LegChange, enters, withdraws, neither, isEnd, reported, facts}
@@ -68,6 +68,22 @@ legsAfter neither ls = ls
 unfoldable pub legsIn : List Event → List Leg
 legsIn [] = []
 legsIn (e ∷ es) = legsAfter (facts e .legs) (legsIn es)
+
+-- E8, Enter: the amount of the delivering one of a new leg and the leg that it matches; a leg that matches none has its own
+abbrev pub amountWith : Leg → Fit → List Leg → ℕ
+amountWith new Nobody ls = new .amount
+amountWith new (With k) ls = delivering new (getD ls k noLeg) .amount
+
+-- E8, Enter: the amount of obligation n, if a change makes this obligation; these are the legs before the change
+abbrev pub amountBy : ℕ → LegChange → List Leg → Option ℕ
+amountBy n (enters leg obligation new) ls = pick (eqb obligation (n + 1)) (some (amountWith new (firstFit new 0 ls) ls)) none
+amountBy n (withdraws k) ls = none
+amountBy n neither ls = none
+
+-- E8, Enter: the amount of obligation n, if an accepted Enter returned its number plus 1
+unfoldable pub amountIn : ℕ → List Event → Option ℕ
+amountIn n [] = none
+amountIn n (e ∷ es) = orElse (amountBy n (facts e .legs) (legsIn es)) (amountIn n es)
 
 -- E11, Enter: the leg that a change enters under number n
 abbrev pub enteredAs : ℕ → LegChange → Option Leg

@@ -1,5 +1,6 @@
--- What is promised of every journal. No clause reads the book: all is said of what calls answer, from the Open and the
--- events alone.
+-- What is promised of every journal. Nothing here reads the book: all is said of what calls answer, from the Open and the
+-- events alone. Only the clauses `-same` in journal/proofs/Demand3.antt speak of a book: the calls that show something
+-- return the one that they were given.
 use Prim.Native.Nat.{ℕ, _+_, _*_, _/_, _≤_, _<_}
 use mathlib.Core.Path.{_≡_}
 use mathlib.Core.Bool.{true, _&&_}
