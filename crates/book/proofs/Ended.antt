@@ -26,7 +26,7 @@ use Rattle.ledger.specs.Obligations.{ageBy, lastOf, isDue}
 use Rattle.ledger.specs.Lines.{wordsInLine, fewestWords, mostLines}
 use Rattle.ledger.specs.Ledger.{obligationAt, ValidLedger}
 use Rattle.ledger.proofs.Valid.{no-offers-valid}
-use Rattle.offers.specs.Held.{listed as listedOffers}
+use Rattle.offers.specs.Held.{listedOffers}
 use Rattle.closing.specs.declared.DayEnd.{DayEnd}
 use Rattle.closing.specs.declared.Line.{Line}
 use Rattle.closing.specs.Close.{closedAt, closeLines, closedLedger}

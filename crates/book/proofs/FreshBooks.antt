@@ -11,7 +11,7 @@ use borrow.Author.Tests.{ltb-false, leb-true, not-false}
 use Rattle.basics.proofs.Cases.{never, pick-case, and-true}
 use Rattle.basics.proofs.Places.{padded-length}
 use Rattle.calendar.specs.declared.Day.{Day}
-use Rattle.calendar.specs.Closed.{day, lastDay, mostClosed, risesFrom, closedRefused, closedDays, listed, among}
+use Rattle.calendar.specs.Closed.{day, lastDay, mostClosed, risesFrom, closedRefused, closedDays, listedDays, among}
 use Rattle.calendar.specs.Days.{clearing}
 use Rattle.calendar.proofs.Closed.{given-rises}
 use Rattle.instructions.proofs.Keeping.{none-valid, none-waiting}
@@ -37,7 +37,7 @@ pub closed-short : (ds : List ℕ) → closedRefused ds ≡ false → length ds 
 closed-short ds e = closed-taken ds e .0
 
 -- a fresh book on a clearing day
-pub fresh-valid : (first : Day) (ds : List ℕ) (terms : ℕ) → closedRefused ds ≡ false → first .0 ≤ lastDay → clearing (listed (closedDays ds)) first ≡ true →
+pub fresh-valid : (first : Day) (ds : List ℕ) (terms : ℕ) → closedRefused ds ≡ false → first .0 ≤ lastDay → clearing (listedDays (closedDays ds)) first ≡ true →
     Valid (freshBook first (closedDays ds) terms)
 unfolding closedDays
 fresh-valid first ds terms taken most clears =
@@ -60,7 +60,7 @@ fresh-valid first ds terms taken most clears =
     }
 
 pub refused-valid : Valid refusedBook
-unfolding refusedBook closedDays closedRefused risesFrom listed clearing among
+unfolding refusedBook closedDays closedRefused risesFrom listedDays clearing among
 refused-valid = fresh-valid (day 2) [] 0 refl (omega arith) refl
 
 -- a first day that is not refused

@@ -6,7 +6,7 @@ use mathlib.Core.List.{List}
 use lib.IntN.{pos, natAbs}
 use lib.ListN.{getD}
 use Rattle.calendar.specs.declared.Day.{Day}
-use Rattle.calendar.specs.Closed.{lastDay, listed}
+use Rattle.calendar.specs.Closed.{lastDay, listedDays}
 use Rattle.calendar.specs.Days.{clearing}
 use Rattle.instructions.specs.declared.Legs.{Legs}
 use Rattle.instructions.specs.Legs.{waiting, ValidLegs}
@@ -38,7 +38,7 @@ withLast last b = record { setup = b .setup; day = b .day; legs = b .legs; ledge
 
 -- the days that the book lists as closed
 abbrev pub closedOf : Book → List Day
-closedOf b = listed (b .setup .«closed_days»)
+closedOf b = listedDays (b .setup .«closed_days»)
 
 -- the day that it is
 abbrev pub todayOf : Book → Day

@@ -58,7 +58,7 @@ impl Book {
         ensures { λ r. ⌜ r ≡ refusedBook ⌝ }
     {
         let none = [0u64; 0];
-        Book::fresh(Day(2), ClosedDays::listed(&none), 0)
+        Book::fresh(Day(2), ClosedDays::of(&none), 0)
     }
 
     // Opens a book on its first day, with its closed days and its terms.
@@ -79,7 +79,7 @@ impl Book {
                 book: Book::refused(),
             };
         }
-        let days = ClosedDays::listed(closed);
+        let days = ClosedDays::of(closed);
         if refusals::is_bad_first(days, first) {
             return Opened {
                 answer: 11,

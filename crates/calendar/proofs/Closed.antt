@@ -12,7 +12,7 @@ use Rattle.basics.specs.Lists.{padded}
 use Rattle.basics.proofs.Places.{padded-more, padded-front}
 use Rattle.calendar.specs.declared.Day.{Day}
 use Rattle.calendar.specs.declared.ClosedDays.{ClosedDays}
-use Rattle.calendar.specs.Closed.{day, lastDay, mostClosed, risesFrom, closedDays, listed, Rises}
+use Rattle.calendar.specs.Closed.{day, lastDay, mostClosed, risesFrom, closedDays, listedDays, Rises}
 
 -- ---- rising
 -- the list from place i on
@@ -51,15 +51,15 @@ held days count = record { days = days; count = count }
 
 -- ---- the closed days from place i on
 module _ (closed : ClosedDays) (size : length (closed .days) ≡ mostClosed) where
-  pub listed-more : (i : ℕ) → i < mostClosed → i < closed .count → drop i (listed closed) ≡ getD (closed .days) i (day 0) ∷ drop (i + 1) (listed closed)
-  unfolding listed
+  pub listed-more : (i : ℕ) → i < mostClosed → i < closed .count → drop i (listedDays closed) ≡ getD (closed .days) i (day 0) ∷ drop (i + 1) (listedDays closed)
+  unfolding listedDays
   listed-more i h k =
       let l = length-take (closed .count) (closed .days) in
       rw (add-one i, drop-cons (take (closed .count) (closed .days)) i (day 0) (omega arith), getD-take (closed .count) (closed .days) i (day 0) k)
 
   -- behind the last closed day, or behind the last place, there are none
-  pub listed-end : (i : ℕ) → min (closed .count) mostClosed ≤ i → drop i (listed closed) ≡ []
-  unfolding listed
+  pub listed-end : (i : ℕ) → min (closed .count) mostClosed ≤ i → drop i (listedDays closed) ≡ []
+  unfolding listedDays
   listed-end i h = drop-of-length-le (take (closed .count) (closed .days)) {i = i} (omega (arith, length-take (closed .count) (closed .days)))
 
 -- ---- the closed days of a list
@@ -69,7 +69,7 @@ numbers-back (d ∷ ds) = ap (λ (l : List ℕ). d ∷ l) (numbers-back ds)
 
 -- they rise where the list does
 pub given-rises : (ds : List ℕ) → risesFrom 0 ds ≡ true → Rises (closedDays ds)
-unfolding Rises closedDays listed
+unfolding Rises closedDays listedDays
 given-rises ds h =
     let e : take (length ds) (padded mostClosed (day 0) (map day ds)) ≡ map day ds =
     ap (λ (n : ℕ). take n (padded mostClosed (day 0) (map day ds))) (sym (length-map ds day)) ∙ padded-front mostClosed (day 0) (map day ds) in

@@ -11,7 +11,7 @@ use Rattle.basics.specs.Choice.{pick}
 use Rattle.basics.proofs.Cases.{below-or-not, and-true}
 use Rattle.calendar.specs.declared.Day.{Day}
 use Rattle.calendar.specs.declared.ClosedDays.{ClosedDays}
-use Rattle.calendar.specs.Closed.{day, lastDay, risesFrom, listed, Rises, among}
+use Rattle.calendar.specs.Closed.{day, lastDay, risesFrom, listedDays, Rises, among}
 use Rattle.calendar.specs.Days.{clearing, clearingWithin, ageAt, weekdaysTo, takesAway, closedBetween}
 
 -- five weekdays for each week, and those of the week under way
@@ -119,8 +119,8 @@ counted-weekdays (c ∷ cs) n d k e =
 
 -- the age, in weekdays
 pub age-weekdays : (closed : ClosedDays) (due today : Day) → Rises closed → due .0 ≤ today .0 →
-    ageAt (listed closed) due today .0 + closedBetween (listed closed) due today + weekdaysTo (due .0) ≡ weekdaysTo (today .0)
+    ageAt (listedDays closed) due today .0 + closedBetween (listedDays closed) due today + weekdaysTo (due .0) ≡ weekdaysTo (today .0)
 unfolding ageAt Rises
 age-weekdays closed due today r h =
     let e : due .0 + (today .0 - due .0) ≡ today .0 = omega arith in
-    rw e at (counted-weekdays (listed closed) 0 (due .0) (today .0 - due .0) r)
+    rw e at (counted-weekdays (listedDays closed) 0 (due .0) (today .0 - due .0) r)

@@ -36,12 +36,12 @@ unfoldable pub closedDays : List ℕ → ClosedDays
 closedDays ds = record { days = padded mostClosed (day 0) (map day ds); count = length ds }
 
 -- D3, Days and units: the days that the book lists as closed
-unfoldable pub listed : ClosedDays → List Day
-listed closed = take (closed .count) (closed .days)
+unfoldable pub listedDays : ClosedDays → List Day
+listedDays closed = take (closed .count) (closed .days)
 
 -- O2, Open: each closed day of a book is above the one before it, and none is above 65,535
 unfoldable pub Rises : ClosedDays → Type 0
-Rises closed = risesFrom 0 (map (λ (d : Day). d .0) (listed closed)) ≡ true
+Rises closed = risesFrom 0 (map (λ (d : Day). d .0) (listedDays closed)) ≡ true
 
 -- d is one of the days of a list
 unfoldable pub among : List Day → Day → Bool

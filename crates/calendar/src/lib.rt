@@ -3,7 +3,7 @@
 ghost use mathlib.Core.Path.{_≡_};
 ghost use Prim.Native.Nat.{_≤_};
 ghost use lib.ListN.{length};
-ghost use Rattle.calendar.specs.Closed.{mostClosed, risesFrom, closedRefused, closedDays, listed, Rises, among};
+ghost use Rattle.calendar.specs.Closed.{mostClosed, risesFrom, closedRefused, closedDays, listedDays, Rises, among};
 ghost use Rattle.calendar.specs.Days.{clearing, nextAfter, nthAfter, ageAt, weekdaysTo, takesAway, closedBetween};
 
 // The last day of the calendar; `lastDay` in specs/.
@@ -76,7 +76,7 @@ fn takes_away(closed: Day, after: Day, to: Day) -> bool
 
 impl ClosedDays {
     // The closed days of a list.
-    pub fn listed(list: &[u64]) -> ClosedDays
+    pub fn of(list: &[u64]) -> ClosedDays
         requires { ⌜ length (now list) ≤ mostClosed ⌝ }
         ensures { λ r. ⌜ r ≡ closedDays (now (list .entry)) ⌝ }
         ensures { λ r. ⌜ now (list .exit) ≡ now (list .entry) ⌝ }
@@ -95,7 +95,7 @@ impl ClosedDays {
 
     // Whether a day is among the closed days.
     fn has(self, day: Day) -> bool
-        ensures { λ r. ⌜ r ≡ among (listed self) day ⌝ }
+        ensures { λ r. ⌜ r ≡ among (listedDays self) day ⌝ }
     {
         let days = self.days;
         let count = self.count;
@@ -112,14 +112,14 @@ impl ClosedDays {
 
     // Whether a day is a clearing day.
     pub fn is_clearing(self, day: Day) -> bool
-        ensures { λ r. ⌜ r ≡ clearing (listed self) day ⌝ }
+        ensures { λ r. ⌜ r ≡ clearing (listedDays self) day ⌝ }
     {
         2 <= day.0 % 7 && !self.has(day)
     }
 
     // The next clearing day after a day.
     pub fn next_after(self, day: Day) -> NextDay
-        ensures { λ r. ⌜ r ≡ nextAfter (listed self) day ⌝ }
+        ensures { λ r. ⌜ r ≡ nextAfter (listedDays self) day ⌝ }
     {
         let mut d = day.0;
         while d < LAST_DAY {
@@ -133,7 +133,7 @@ impl ClosedDays {
 
     // The n-th clearing day after a day: for n above 0, the next one after the (n - 1)-th.
     pub fn nth_after(self, day: Day, n: ClearingDays) -> NextDay
-        ensures { λ r. ⌜ r ≡ nthAfter (listed self) day n ⌝ }
+        ensures { λ r. ⌜ r ≡ nthAfter (listedDays self) day n ⌝ }
     {
         let count = n.0;
         if count == 0 {
@@ -147,7 +147,7 @@ impl ClosedDays {
 
     // How many closed days are weekdays that are later than one day and not later than another.
     fn closed_between(self, after: Day, to: Day) -> u64
-        ensures { λ r. ⌜ r ≡ closedBetween (listed self) after to ⌝ }
+        ensures { λ r. ⌜ r ≡ closedBetween (listedDays self) after to ⌝ }
     {
         let days = self.days;
         let count = self.count;
@@ -165,7 +165,7 @@ impl ClosedDays {
     // The age at today of what was due on a day: the weekdays since then without the closed days among them.
     pub fn age_at(self, due: Day, today: Day) -> ClearingDays
         requires { ⌜ Rises self ⌝ }
-        ensures { λ r. ⌜ r ≡ ageAt (listed self) due today ⌝ }
+        ensures { λ r. ⌜ r ≡ ageAt (listedDays self) due today ⌝ }
     {
         if today.0 <= due.0 {
             return ClearingDays(0);

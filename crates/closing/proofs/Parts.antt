@@ -14,7 +14,7 @@ use Rattle.offers.specs.declared.Offer.{Offer}
 use Rattle.offers.specs.declared.Given.{Given}
 use Rattle.offers.specs.declared.Offers.{Offers}
 use Rattle.offers.specs.declared.BuyIn.{BuyIn}
-use Rattle.offers.specs.Held.{listed}
+use Rattle.offers.specs.Held.{listedOffers}
 use Rattle.offers.specs.BuyIn.{given, units, boughtWith}
 use Rattle.offers.proofs.Giving.{given-units, given-keeps}
 use Rattle.offers.proofs.Results.{bought-given, bought-size, lines-most as offers-given-most}
@@ -222,9 +222,9 @@ closed-most d offers n o h =
 pub found-taken : (gs : List Given) (b : BuyIn) → b ≡ boughtWith gs → taken b ≡ gs
 found-taken gs b e = ap taken e ∙ bought-given gs
 
-module _ (offers : Offers) (n : ℕ) (o : Obligation) (b : BuyIn) (e : b ≡ boughtWith (given n (o .parts .outstanding) (listed offers))) where
+module _ (offers : Offers) (n : ℕ) (o : Obligation) (b : BuyIn) (e : b ≡ boughtWith (given n (o .parts .outstanding) (listedOffers offers))) where
   abbrev gs : List Given
-  gs = given n (o .parts .outstanding) (listed offers)
+  gs = given n (o .parts .outstanding) (listedOffers offers)
 
   pub found-buys : Sound o → Priced offers → Buys o b
   found-buys s p =
@@ -233,11 +233,11 @@ module _ (offers : Offers) (n : ℕ) (o : Obligation) (b : BuyIn) (e : b ≡ bou
         sound = s;
         size = rw e (bought-size gs few);
         few = rw e few;
-        enough = rw (found-taken gs b e) (given-enough n (listed offers) o);
+        enough = rw (found-taken gs b e) (given-enough n (listedOffers offers) o);
         prices = rw (found-taken gs b e) (given-keeps n (o .parts .outstanding) (p .prices));
       }
 
-  pub found-bought : boughtAll n (taken b) o ≡ buyInAt true (listed offers) n o
+  pub found-bought : boughtAll n (taken b) o ≡ buyInAt true (listedOffers offers) n o
   unfolding buyInAt
   found-bought = rw (found-taken gs b e)
 

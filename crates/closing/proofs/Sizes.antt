@@ -11,7 +11,7 @@ use Rattle.basics.proofs.Everywhere.{every-append}
 use Rattle.amounts.specs.Amounts.{mostClosePrice}
 use Rattle.offers.specs.declared.Offer.{Offer}
 use Rattle.offers.specs.declared.Given.{Given}
-use Rattle.offers.specs.Held.{listed}
+use Rattle.offers.specs.Held.{listedOffers}
 use Rattle.offers.proofs.Giving.{Within, given-within, given-keeps}
 use Rattle.ledger.specs.declared.Obligation.{Obligation}
 use Rattle.ledger.specs.declared.Ledger.{Ledger}
@@ -99,8 +99,8 @@ pub lines-sound : (d : DayEnd) (l : Ledger) (ws : List ℕ) → Closable d l ws 
 unfolding linesUpTo
 lines-sound d l ws c = up-to (l .count) (omega arith)
   where
-    up-to : (n : ℕ) → n ≤ l .count → Every SoundLine (linesUpTo d (listed (l .offers)) (l .obligations) n)
+    up-to : (n : ℕ) → n ≤ l .count → Every SoundLine (linesUpTo d (listedOffers (l .offers)) (l .obligations) n)
     up-to zero h = nobody
     up-to (suc n) h =
         every-append (up-to n (omega arith))
-        (closed-sized n (omega (arith, c .valid .few)) (l .count) d (listed (l .offers)) (obligationAt l n) (c .end .price-most) (c .valid .sound n (omega arith)) (c .valid .offers .sound))
+        (closed-sized n (omega (arith, c .valid .few)) (l .count) d (listedOffers (l .offers)) (obligationAt l n) (c .end .price-most) (c .valid .sound n (omega arith)) (c .valid .offers .sound))

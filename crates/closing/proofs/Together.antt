@@ -16,7 +16,7 @@ use Rattle.basics.proofs.Stores.{sets-ahead}
 use Rattle.basics.proofs.TableSums.{sum-more}
 use Rattle.offers.specs.declared.Offer.{Offer}
 use Rattle.offers.specs.declared.Offers.{Offers}
-use Rattle.offers.specs.Held.{mostOffers, listed}
+use Rattle.offers.specs.Held.{mostOffers, listedOffers}
 use Rattle.offers.specs.BuyIn.{given}
 use Rattle.offers.proofs.Results.{all-lines-most}
 use Rattle.ledger.specs.declared.Obligation.{Obligation}
@@ -54,8 +54,8 @@ module _ (d : DayEnd) (os : List Obligation) where
 
   -- the most lines are enough for all obligations with all offers
   pub lines-most : (offers : Offers) → ValidTerms (d .setup .terms) → offers .count ≤ mostOffers → (n : ℕ) → n ≤ mostObligations →
-      length (linesUpTo d (listed offers) os n) ≤ mostLines
-  lines-most offers h few n m = omega (arith, up-to-most (listed offers) h n, all-lines-most n left offers)
+      length (linesUpTo d (listedOffers offers) os n) ≤ mostLines
+  lines-most offers h few n m = omega (arith, up-to-most (listedOffers offers) h n, all-lines-most n left offers)
 
   -- ---- rows
   pub rows-length : (offers : List Offer) (n : ℕ) → length (rowsUpTo d offers os n) ≡ length os
@@ -149,15 +149,15 @@ module _ (d : DayEnd) (offers : List Offer) (os : List Obligation) (n : ℕ) (ne
 
 -- the lines of the next obligation have room
 pub done-room : (d : DayEnd) (l : Ledger) (n count : ℕ) (next : List Obligation) (ws ws' : List ℕ) → Closable d l ws → n < l .count →
-    Done d (listed (l .offers)) (l .obligations) n next count ws ws' → Room count ws' (closedAt d (listed (l .offers)) (l .obligations) n)
+    Done d (listedOffers (l .offers)) (l .obligations) n next count ws ws' → Room count ws' (closedAt d (listedOffers (l .offers)) (l .obligations) n)
 unfolding linesUpTo
 done-room d l n count next ws ws' c h s =
     omega (
       arith,
       lines-most d (l .obligations) (l .offers) (c .end .setup .terms) (c .valid .offers .few) (suc n) (omega (arith, c .valid .few)),
-      length-append (linesUpTo d (listed (l .offers)) (l .obligations) n) (closedAt d (listed (l .offers)) (l .obligations) n .lines),
+      length-append (linesUpTo d (listedOffers (l .offers)) (l .obligations) n) (closedAt d (listedOffers (l .offers)) (l .obligations) n .lines),
       s .counted,
-      done-length d (listed (l .offers)) (l .obligations) n next count ws ws' s,
+      done-length d (listedOffers (l .offers)) (l .obligations) n next count ws ws' s,
       c .long,
     )
 

@@ -10,7 +10,7 @@ use Rattle.netting.specs.Accounts.{mostAccount}
 use Rattle.offers.specs.declared.Offers.{Offers}
 use Rattle.offers.specs.declared.Given.{Given}
 use Rattle.offers.specs.declared.BuyIn.{BuyIn}
-use Rattle.offers.specs.Held.{mostOffers, listed}
+use Rattle.offers.specs.Held.{mostOffers, listedOffers}
 use Rattle.offers.specs.BuyIn.{units}
 use Rattle.ledger.specs.declared.Obligation.{Obligation}
 use Rattle.ledger.specs.declared.Ledger.{Ledger}
@@ -29,7 +29,7 @@ taken b = take (b .count) (b .given)
 -- the offers of a day, of which none is above the highest price
 pub record Priced (offers : Offers) : Type 0 where
   pub few : offers .count ≤ mostOffers
-  pub prices : Every (λ x. x .price ≤ mostOfferPrice) (listed offers)
+  pub prices : Every (λ x. x .price ≤ mostOfferPrice) (listedOffers offers)
 
 -- what is required so that all that was found can be bought in
 pub record Buys (o : Obligation) (b : BuyIn) : Type 0 where

@@ -6,7 +6,7 @@ use lib.ListN.{getD, set}
 use Rattle.basics.specs.Choice.{pick}
 use Rattle.netting.specs.Accounts.{transferred}
 use Rattle.offers.specs.declared.Offer.{Offer}
-use Rattle.offers.specs.Held.{noOffers, listed}
+use Rattle.offers.specs.Held.{noOffers, listedOffers}
 use Rattle.ledger.specs.declared.Obligation.{Obligation}
 use Rattle.ledger.specs.declared.Ledger.{Ledger}
 use Rattle.ledger.specs.Obligations.{noObligation, ageBy, isDue, sidesOf}
@@ -61,12 +61,12 @@ accountsUpTo d os accounts (suc n) = fined d (getD os n noObligation) (accountsU
 
 -- C3 to C15, Close: all lines
 abbrev pub closeLines : DayEnd → Ledger → List Line
-closeLines d l = linesUpTo d (listed (l .offers)) (l .obligations) (l .count)
+closeLines d l = linesUpTo d (listedOffers (l .offers)) (l .obligations) (l .count)
 
 -- C2 to C10 and C17, Close: the ledger after the Close; then the offers of the day are removed
 abbrev pub closedLedger : DayEnd → Ledger → Ledger
 closedLedger d l = record {
-  obligations = rowsUpTo d (listed (l .offers)) (l .obligations) (l .count);
+  obligations = rowsUpTo d (listedOffers (l .offers)) (l .obligations) (l .count);
   count = l .count;
   offers = noOffers;
   accounts = accountsUpTo d (l .obligations) (l .accounts) (l .count);

@@ -17,7 +17,7 @@ ghost use lib.Seq.{sets};
 ghost use Rattle.amounts.specs.Amounts.{mostClosePrice, mostOfferPrice};
 ghost use Rattle.ledger.specs.Lines.{wordsInLine};
 ghost use Rattle.ledger.specs.Obligations.{ageBy, Sound, Takes};
-ghost use Rattle.offers.specs.Held.{listed};
+ghost use Rattle.offers.specs.Held.{listedOffers};
 ghost use Rattle.closing.specs.Lines.{wordsOf, one, Wrote, Room};
 ghost use Rattle.closing.specs.Stages.{plainLine, priced, penaltyOn, measuresAt};
 ghost use Rattle.closing.specs.Stages.{penalised, noticeAt, boughtFrom, boughtAll, buyInAt, compensatedAt};
@@ -199,8 +199,8 @@ fn buy_all(start: Closing, number: u64, bought: BuyIn, lines: &mut [u64]) -> Clo
 // Makes the buy-in, if there is to be one.
 fn buy_in(s: Closing, number: u64, comes: bool, offers: Offers, lines: &mut [u64]) -> Closing
     requires { ⌜ (Sound (s .obligation)) × (Priced offers) ⌝ }
-    requires { ⌜ Room (s .count) (now lines) (buyInAt comes (listed offers) number (s .obligation)) ⌝ }
-    ensures { λ r. ⌜ Wrote (s .count) (now (lines .entry)) r (now (lines .exit)) (buyInAt comes (listed offers) number (s .obligation)) ⌝ }
+    requires { ⌜ Room (s .count) (now lines) (buyInAt comes (listedOffers offers) number (s .obligation)) ⌝ }
+    ensures { λ r. ⌜ Wrote (s .count) (now (lines .entry)) r (now (lines .exit)) (buyInAt comes (listedOffers offers) number (s .obligation)) ⌝ }
 {
     if comes {
         let bought = offers.buy_in(number, s.obligation.parts.outstanding as u64);
@@ -250,8 +250,8 @@ fn close_due(
     lines: &mut [u64],
 ) -> Closing
     requires { ⌜ (Closes day offers o) × (cents ≡ penaltyOn day o) ⌝ }
-    requires { ⌜ Room count (now lines) (stages day (ageBy (day .setup) (day .today) o) (listed offers) number o) ⌝ }
-    ensures { λ r. ⌜ Wrote count (now (lines .entry)) r (now (lines .exit)) (stages day (ageBy (day .setup) (day .today) o) (listed offers) number o) ⌝ }
+    requires { ⌜ Room count (now lines) (stages day (ageBy (day .setup) (day .today) o) (listedOffers offers) number o) ⌝ }
+    ensures { λ r. ⌜ Wrote count (now (lines .entry)) r (now (lines .exit)) (stages day (ageBy (day .setup) (day .today) o) (listedOffers offers) number o) ⌝ }
 {
     let terms = day.setup.terms;
     let price = day.price;

@@ -12,12 +12,12 @@ use Rattle.basics.specs.Refusals.{answer}
 use Rattle.basics.proofs.Refusals.{by-number}
 use Rattle.calendar.specs.declared.Day.{Day}
 use Rattle.calendar.specs.declared.NextDay.the-variants.{At}
-use Rattle.calendar.specs.Closed.{day, lastDay, risesFrom, closedRefused, closedDays, listed, among}
+use Rattle.calendar.specs.Closed.{day, lastDay, risesFrom, closedRefused, closedDays, listedDays, among}
 use Rattle.calendar.specs.Days.{clearingDays, clearing, clearingWithin, nextWithin, nextAfter, nthAfter, ageAt}
 use Rattle.calendar.proofs.Ages.{age-nth}
 use Rattle.holidays.specs.Years.{isLeap, monthsOf, daysOfYears, newYear, dateOf}
 use Rattle.holidays.specs.Easter.{sunCorrection, moonCorrection, plainEpact, epact, marchMoon, fullMoon, sundayFrom, easter}
-use Rattle.holidays.specs.Target.{goodFriday, easterMonday, closedIn, closedFrom, targetDays, targetRefusals, target, targetWords}
+use Rattle.holidays.specs.Target.{goodFriday, easterMonday, closedInYear, closedFrom, targetDays, targetRefusals, target, targetWords}
 use Rattle.amounts.specs.Quotients.{rounded}
 use Rattle.amounts.specs.Amounts.{value, penalty, compensation, dueFor, cash, cashOfEach, charge, tolerance, amountsMatch, aboveCap}
 use Rattle.netting.specs.Accounts.{debited, credited, transferred}
@@ -48,7 +48,7 @@ use Rattle.book.specs.declared.Book.{Book}
 use Rattle.book.specs.declared.Done.{Done}
 use Rattle.book.specs.Instructing.{doneRefused}
 use Rattle.journal.specs.Calls.{Call}
-use Rattle.journal.specs.Played.{outcome, eventOf, begun}
+use Rattle.journal.specs.Played.{outcomeOf, eventOf, begun}
 use Rattle.examples.specs.Played.{opening, bookAfter, eventsOn, numbersOf, accepted, answersOf, shown, sale, closeAt, daysPass, toBuyIn, compensationPlayed, capOffers, capPlayed, matchPlayed, deliversPlayed, auctionOffers, equalOffers, auctionPlayed, collecting, everybodyPaid, monthPlayed, answerWithLines, answersWithLines, twoSales, againLent, reprintPlayed, boughtAt}
 use Rattle.examples.specs.Table.{table, boughtFrom, nthDay, dayNumber, oneOfThree, threeCash, compensatedFor, boughtInTwo, boughtInOne, twoPenalties, paidInFull, targetShown}
 
@@ -75,7 +75,7 @@ example-9 = λ i. dayNumber (thirtieth i) ++ dayNumber (thirty-fifth i) ++ dayNu
 
 -- the rules that the rows are worked out by; a proof that unfolds this name unfolds them all
 unfoldable rules : ℕ
-unfolding total tableFrom countBelow rounded value penalty compensation dueFor cash cashOfEach charge tolerance amountsMatch aboveCap floorShare remainder centsLeft comesBefore rank extraCent share shares overtakes insertedBy rankedBy offersFor withGiven givenBy given boughtFrom among clearing clearingWithin ageAt closedDays listed closedRefused risesFrom answer opened openRefusals ageOf enterRefusals obligationOf enteredAlone enteredWith enter deliverRefusals deliverRefusalsOf deliver fetchOutcome offerRefusals offerRefusalsIn offerRefusalsOf offer fits firstFit lowestFit settledParts cashOf moving lastOf sides close closeBy closeWords closeRefusals closeRefusalsIn again againWords againRefusals nextAfter nextWithin flat then written course stages closedOne rowsUpTo linesUpTo fined accountsUpTo priced penaltyOn measuresAt penalised noticeAt boughtOffer boughtAll buyInAt compensated compensatedAt isDue paidOut month monthRefusals overCollected fetched linesRead debited credited transferred
+unfolding total tableFrom countBelow rounded value penalty compensation dueFor cash cashOfEach charge tolerance amountsMatch aboveCap floorShare remainder centsLeft comesBefore rank extraCent share shares overtakes insertedBy rankedBy offersFor withGiven givenBy given boughtFrom among clearing clearingWithin ageAt closedDays listedDays closedRefused risesFrom answer opened openRefusals ageOf enterRefusals obligationOf enteredAlone enteredWith enter deliverRefusals deliverRefusalsOf deliver fetchOutcome offerRefusals offerRefusalsIn offerRefusalsOf offer fits firstFit lowestFit settledParts cashOf moving lastOf sides close closeBy closeWords closeRefusals closeRefusalsIn again againWords againRefusals nextAfter nextWithin flat then written course stages closedOne rowsUpTo linesUpTo fined accountsUpTo priced penaltyOn measuresAt penalised noticeAt boughtOffer boughtAll buyInAt compensated compensatedAt isDue paidOut month monthRefusals overCollected fetched linesRead debited credited transferred
 rules = 0
 
 -- ---- journals of many days
@@ -194,7 +194,7 @@ abbrev pub closedOnce : Book
 closedOnce = bookAfter (begun opening .book) (twoSales ++ closeAt 100000 10 ∷ [])
 
 -- a Month answers its number alone
-month-alone : (b : Book) → answerWithLines (eventOf b (collecting 100)) ≡ outcome b (collecting 100) .answer ∷ []
+month-alone : (b : Book) → answerWithLines (eventOf b (collecting 100)) ≡ outcomeOf b (collecting 100) .answer ∷ []
 unfolding flat linesRead tableFrom
 month-alone b = refl
 
@@ -209,10 +209,10 @@ unfolding rules
 reprint-lines = refl
 
 -- the Month is accepted, and this is the book after it
-accepted-month : outcome closedOnce (collecting 100) .answer ≡ 0
+accepted-month : outcomeOf closedOnce (collecting 100) .answer ≡ 0
 accepted-month = ap (λ (l : List ℕ). getD l 5 0) example-8
 
-after-month : outcome closedOnce (collecting 100) .book ≡ monthBook closedOnce
+after-month : outcomeOf closedOnce (collecting 100) .book ≡ monthBook closedOnce
 after-month = month-leaves closedOnce _ _ accepted-month
 
 pub example-11 : reprintPlayed ≡ accepted 4 ++ twoPenalties ++ (0 ∷ []) ++ twoPenalties
@@ -228,7 +228,7 @@ again-there : countAndCents (monthBook closedOnce) ≡ 2 ∷ 200 ∷ 100 ∷ []
 unfolding rules
 again-there = refl
 
-pub example-11-words : countAndCents (outcome closedOnce (collecting 100) .book) ≡ 2 ∷ 200 ∷ 100 ∷ []
+pub example-11-words : countAndCents (outcomeOf closedOnce (collecting 100) .book) ≡ 2 ∷ 200 ∷ 100 ∷ []
 example-11-words = ap countAndCents after-month ∙ again-there
 
 -- a place among those that are shown of a list
@@ -267,7 +267,7 @@ example-14-line = line-read 1 equalOffers ∙ lines-there .2
 -- X13, Settled examples: the closed days of 2000
 pub example-13 : targetShown 2000 ≡ 0 ∷ 6 ∷ 0 ∷ 111 ∷ 114 ∷ 121 ∷ 359 ∷ 360 ∷ 9 ∷ []
 unfolding total isLeap monthsOf daysOfYears newYear dateOf sunCorrection moonCorrection plainEpact epact marchMoon fullMoon sundayFrom easter
-    goodFriday easterMonday closedIn closedFrom targetDays targetRefusals target targetWords answer
+    goodFriday easterMonday closedInYear closedFrom targetDays targetRefusals target targetWords answer
 example-13 = refl
 
 -- ---- the table

@@ -8,7 +8,7 @@ use Rattle.closing.specs.Lines.{flat, linesRead}
 use Rattle.book.specs.declared.Book.{Book}
 use Rattle.journal.specs.Calls.{Opening, Call, enter, deliver, offer, close, again, month, Event}
 use Rattle.journal.specs.Facts.{reported, factsOf}
-use Rattle.journal.specs.Played.{outcome, eventOf, begun}
+use Rattle.journal.specs.Played.{outcomeOf, eventOf, begun}
 
 -- O1 and O4, Open: the book of these journals begins on day 2 without closed days. It has terms 1, by which notice, grace
 -- and last are at 7, 10 and 13 clearing days.
@@ -19,12 +19,12 @@ opening = record { first = day 2; closed = []; terms = 1 }
 -- the book after calls, the first of which stands first
 abbrev pub bookAfter : Book → List Call → Book
 bookAfter b [] = b
-bookAfter b (c ∷ later) = bookAfter (outcome b c .book) later
+bookAfter b (c ∷ later) = bookAfter (outcomeOf b c .book) later
 
 -- the calls with what came of them, in the same order
 abbrev pub eventsOn : Book → List Call → List Event
 eventsOn b [] = []
-eventsOn b (c ∷ later) = eventOf b c ∷ eventsOn (outcome b c .book) later
+eventsOn b (c ∷ later) = eventOf b c ∷ eventsOn (outcomeOf b c .book) later
 
 -- O8, Open: the answer numbers, which are 0 where a call was done
 abbrev pub numbersOf : List Event → List ℕ

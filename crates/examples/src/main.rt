@@ -14,7 +14,7 @@ ghost use mathlib.Core.Path.{_≡_};
 ghost use Prim.Native.Nat.{_≤_};
 ghost use lib.Dec.{eqb};
 ghost use Rattle.basics.specs.Choice.{pick};
-ghost use Rattle.calendar.specs.Closed.{day, listed};
+ghost use Rattle.calendar.specs.Closed.{day, listedDays};
 ghost use Rattle.calendar.specs.Days.{clearingDays, nthAfter};
 ghost use Rattle.examples.specs.Table.{asNumber, dayOrNone, offerOf};
 
@@ -114,7 +114,7 @@ fn months() -> u64
 
 // The number of the n-th clearing day after day 2, or 0 where there is none.
 fn nth_after_2(closed: ClosedDays, n: u64) -> u64
-    ensures { λ r. ⌜ r ≡ dayOrNone (nthAfter (listed closed) (day 2) (clearingDays n)) ⌝ }
+    ensures { λ r. ⌜ r ≡ dayOrNone (nthAfter (listedDays closed) (day 2) (clearingDays n)) ⌝ }
 {
     match closed.nth_after(Day(2), ClearingDays(n)) {
         NextDay::At(day) => day.0,
@@ -127,8 +127,8 @@ fn clearing_days() -> u64
     ensures { λ r. ⌜ r ≡ 0 ⌝ }
 {
     let list = [44u64; 1];
-    let all_open = ClosedDays::listed(&list[..0]);
-    let one_closed = ClosedDays::listed(&list);
+    let all_open = ClosedDays::of(&list[..0]);
+    let one_closed = ClosedDays::of(&list);
     compared(9, nth_after_2(all_open, 30), 44)
         + compared(9, nth_after_2(all_open, 35), 51)
         + compared(9, nth_after_2(one_closed, 30), 45)

@@ -17,7 +17,7 @@ use Rattle.basics.proofs.Stores.{sets-append}
 use Rattle.calendar.specs.Closed.{lastDay, risesFrom}
 use Rattle.holidays.specs.Years.{firstYear, newYear, dateOf}
 use Rattle.holidays.specs.Easter.{easter}
-use Rattle.holidays.specs.Target.{goodFriday, easterMonday, closedIn, closedFrom, lastYear}
+use Rattle.holidays.specs.Target.{goodFriday, easterMonday, closedInYear, closedFrom, lastYear}
 use Rattle.holidays.proofs.Years.{dates, begins-early}
 use Rattle.holidays.proofs.Moons.{easter-sunday, after-march}
 
@@ -74,21 +74,21 @@ unfolding easterMonday
 monday y = omega (arith, easter-sunday y .sunday)
 
 -- a year has six closed days
-pub six-days : (y : ℕ) → length (closedIn y) ≡ 6
-unfolding closedIn
+pub six-days : (y : ℕ) → length (closedInYear y) ≡ 6
+unfolding closedInYear
 six-days y = refl
 
 module _ (y : ℕ) (h : firstYear ≤ y) where
   -- as code has them, by the first day of the year, 1 March and Easter
   pub by-march : (january march sunday : ℕ) → january ≡ newYear y → march ≡ dateOf y 3 1 → sunday ≡ easter y →
-      january ∷ (sunday - 2) ∷ (sunday + 1) ∷ (march + 61) ∷ (march + 299) ∷ (march + 300) ∷ [] ≡ closedIn y
-  unfolding closedIn goodFriday easterMonday
+      january ∷ (sunday - 2) ∷ (sunday + 1) ∷ (march + 61) ∷ (march + 299) ∷ (march + 300) ∷ [] ≡ closedInYear y
+  unfolding closedInYear goodFriday easterMonday
   by-march january march sunday e f g =
       let d = dates y h in rw (e, f, g, d .january, d .may, d .december-25, d .december-26)
 
   -- they climb from the first day of the year to that of the next
-  year-climbs : Climbs (newYear y) (closedIn y) (newYear (y + 1))
-  unfolding closedIn goodFriday easterMonday
+  year-climbs : Climbs (newYear y) (closedInYear y) (newYear (y + 1))
+  unfolding closedInYear goodFriday easterMonday
   year-climbs =
       let d = dates y h in
       let span = after-march y h in
@@ -111,23 +111,23 @@ module _ (y : ℕ) (h : firstYear ≤ y) where
 pub closed-length : (y n : ℕ) → length (closedFrom y n) ≡ 6 * n
 unfolding closedFrom
 closed-length y zero = refl
-closed-length y (suc n) = omega (arith, length-append (closedIn y) (closedFrom (y + 1) n), six-days y, closed-length (y + 1) n)
+closed-length y (suc n) = omega (arith, length-append (closedInYear y) (closedFrom (y + 1) n), six-days y, closed-length (y + 1) n)
 
 -- with one year more, its closed days come behind those of the others
-pub closed-more : (y n : ℕ) → closedFrom y (suc n) ≡ closedFrom y n ++ closedIn (y + n)
+pub closed-more : (y n : ℕ) → closedFrom y (suc n) ≡ closedFrom y n ++ closedInYear (y + n)
 unfolding closedFrom
-closed-more y zero = append-nil (closedIn y) ∙ ap closedIn (sym (add-zero y))
+closed-more y zero = append-nil (closedInYear y) ∙ ap closedInYear (sym (add-zero y))
 closed-more y (suc n) =
     let same : y + 1 + n ≡ y + suc n = omega arith in
-    ap (λ (l : List ℕ). closedIn y ++ l) (closed-more (y + 1) n ∙ ap (λ (x : ℕ). closedFrom (y + 1) n ++ closedIn x) same)
-    ∙ sym (append-assoc (closedIn y) (closedFrom (y + 1) n) (closedIn (y + suc n)))
+    ap (λ (l : List ℕ). closedInYear y ++ l) (closed-more (y + 1) n ∙ ap (λ (x : ℕ). closedFrom (y + 1) n ++ closedInYear x) same)
+    ∙ sym (append-assoc (closedInYear y) (closedFrom (y + 1) n) (closedInYear (y + suc n)))
 
 -- they are stored year after year
-pub stored-more : (ws : List ℕ) (y i : ℕ) → sets (sets ws 0 (closedFrom y i)) (6 * i) (closedIn (y + i)) ≡ sets ws 0 (closedFrom y (i + 1))
+pub stored-more : (ws : List ℕ) (y i : ℕ) → sets (sets ws 0 (closedFrom y i)) (6 * i) (closedInYear (y + i)) ≡ sets ws 0 (closedFrom y (i + 1))
 stored-more ws y i =
     let at : 6 * i ≡ 0 + length (closedFrom y i) = omega (arith, closed-length y i) in
-    ap (λ (k : ℕ). sets (sets ws 0 (closedFrom y i)) k (closedIn (y + i))) at
-    ∙ sym (ap (sets ws 0) (ap (closedFrom y) (add-one i) ∙ closed-more y i) ∙ sets-append ws 0 (closedFrom y i) (closedIn (y + i)))
+    ap (λ (k : ℕ). sets (sets ws 0 (closedFrom y i)) k (closedInYear (y + i))) at
+    ∙ sym (ap (sets ws 0) (ap (closedFrom y) (add-one i) ∙ closed-more y i) ∙ sets-append ws 0 (closedFrom y i) (closedInYear (y + i)))
 
 -- they climb from the first day of the first year to that of the year after the last
 climbing : (y n : ℕ) → firstYear ≤ y → Climbs (newYear y) (closedFrom y n) (newYear (y + n))

@@ -20,13 +20,13 @@ easterMonday y = easter y + 1
 
 -- H11, Closed days: the closed days of a year are 1 January, Good Friday, Easter Monday, 1 May, 25 and 26 December,
 -- whatever day of the week they are
-unfoldable pub closedIn : ℕ → List ℕ
-closedIn y = dateOf y 1 1 ∷ goodFriday y ∷ easterMonday y ∷ dateOf y 5 1 ∷ dateOf y 12 25 ∷ dateOf y 12 26 ∷ []
+unfoldable pub closedInYear : ℕ → List ℕ
+closedInYear y = dateOf y 1 1 ∷ goodFriday y ∷ easterMonday y ∷ dateOf y 5 1 ∷ dateOf y 12 25 ∷ dateOf y 12 26 ∷ []
 
 -- H12, Closed days: the closed days of n years from y on, year after year
 unfoldable pub closedFrom : ℕ → ℕ → List ℕ
 closedFrom y zero = []
-closedFrom y (suc n) = closedIn y ++ closedFrom (y + 1) n
+closedFrom y (suc n) = closedInYear y ++ closedFrom (y + 1) n
 
 -- H12, Closed days: how many years there are from the first to the last; there are none if the last is before the first
 abbrev pub yearsIn : ℕ → ℕ → ℕ

@@ -9,7 +9,7 @@ ghost use Rattle.basics.specs.Lists.{atFront};
 ghost use Rattle.basics.specs.Refusals.{answer};
 ghost use Rattle.holidays.specs.Years.{firstYear, newYear, dateOf};
 ghost use Rattle.holidays.specs.Easter.{golden, plainEpact, epact, fullMoon, easter};
-ghost use Rattle.holidays.specs.Target.{Taken, closedIn, closedFrom, lastYear, tooFew, badYears};
+ghost use Rattle.holidays.specs.Target.{Taken, closedInYear, closedFrom, lastYear, tooFew, badYears};
 ghost use Rattle.holidays.specs.Target.{targetRefusals, target, targetWords};
 
 // The year in which day 0 is 1 January; `firstYear` in specs/.
@@ -109,7 +109,7 @@ fn easter(year: u64) -> Day
 // it.
 fn put_year(year: u64, days: &mut [u64], at: usize)
     requires { ⌜ (Taken year) × (at + 6 ≤ length (now days)) ⌝ }
-    ensures { λ _. ⌜ now (days .exit) ≡ sets (now (days .entry)) at (closedIn year) ⌝ }
+    ensures { λ _. ⌜ now (days .exit) ≡ sets (now (days .entry)) at (closedInYear year) ⌝ }
 {
     let march = first_of_march(year);
     let sunday = easter(year);

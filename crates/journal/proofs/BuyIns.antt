@@ -12,7 +12,7 @@ use Rattle.basics.proofs.Cases.{pick-case, and-true}
 use Rattle.offers.specs.declared.Offer.{Offer}
 use Rattle.offers.specs.declared.Given.{Given}
 use Rattle.offers.specs.Rank.{ranked}
-use Rattle.offers.specs.Held.{listed}
+use Rattle.offers.specs.Held.{listedOffers}
 use Rattle.offers.specs.BuyIn.{given}
 use Rattle.offers.proofs.Ranking.{ranked-in-order}
 use Rattle.ledger.specs.declared.Setup.{Setup}
@@ -32,7 +32,7 @@ use Rattle.book.specs.Book.{ageOf}
 use Rattle.book.proofs.Outcomes.{Ends}
 use Rattle.book.proofs.Ended.{ends-age, ends-last, ends-due}
 use Rattle.journal.specs.Calls.{Opening, Call, Event, Run}
-use Rattle.journal.specs.Played.{outcome, eventOf, played, callsOf}
+use Rattle.journal.specs.Played.{outcomeOf, eventOf, played, callsOf}
 use Rattle.journal.specs.Facts.{Instructed, partOfKind, isPart, Ended, isEnd, reported, facts}
 use Rattle.journal.specs.Sums.{termsIn, ageIn, lastIn}
 use Rattle.journal.specs.History.{offersIn}
@@ -120,8 +120,8 @@ module _ (o : Opening) (b : Book) (es : List Event) (g : Agrees o b es) (k : Rec
       record {
         turns = ranked (offersIn es);
         in-turn = ranked-in-order (offersIn es);
-        lines = purchases-one d (listed (b .ledger .offers)) (b .ledger .obligations) (b .ledger .count) n (h .below)
-            ∙ purchases-closed n d (listed (b .ledger .offers)) row due (rw (ends-age b (g .valid) d e row, ends-last b (g .valid) d e row, e .setup) days)
+        lines = purchases-one d (listedOffers (b .ledger .offers)) (b .ledger .obligations) (b .ledger .count) n (h .below)
+            ∙ purchases-closed n d (listedOffers (b .ledger .offers)) row due (rw (ends-age b (g .valid) d e row, ends-last b (g .valid) d e row, e .setup) days)
             ∙ ap₂ (λ (q : ℕ) (xs : List Offer). map purchaseFrom (given n q xs)) (sym left) (k .offers);
       }
 
@@ -141,7 +141,7 @@ played-bought o [] = tt
 played-bought o (c ∷ earlier) =
     let s = played o earlier in
     let g = played-known o earlier .agrees in
-    (ended-bought (s .opening) (s .book) (s .past) g (played-recalls o earlier) (outcome (s .book) c .book) (eventOf (s .book) c) (call-does (s .book) (g .valid) c), played-bought o earlier)
+    (ended-bought (s .opening) (s .book) (s .past) g (played-recalls o earlier) (outcomeOf (s .book) c .book) (eventOf (s .book) c) (call-does (s .book) (g .valid) c), played-bought o earlier)
 
 pub known-bought : (s : Run) → Known s → EveryBuyIn (s .opening) (s .past)
 known-bought s k = subst⁻¹ RunBought (k .answered) (played-bought (s .opening) (callsOf (s .past)))

@@ -15,7 +15,7 @@ use Rattle.basics.proofs.Cases.{below-or-not}
 use Rattle.calendar.specs.declared.Day.{Day}
 use Rattle.calendar.specs.declared.NextDay.{NextDay}
 use Rattle.calendar.specs.declared.NextDay.the-variants.{At}
-use Rattle.calendar.specs.Closed.{listed}
+use Rattle.calendar.specs.Closed.{listedDays}
 use Rattle.calendar.specs.Days.{clearing, ageAt, nextAfter}
 use Rattle.calendar.proofs.Ages.{age-early, age-next, age-to-come}
 use Rattle.ledger.specs.declared.Setup.{Setup}
@@ -24,7 +24,7 @@ use Rattle.book.specs.Close.{nextDay}
 use Rattle.journal.specs.Calls.{Opening, Call, Event, Run}
 use Rattle.journal.specs.Played.{eventOf, played, callsOf}
 use Rattle.journal.specs.Facts.{Instructed, instructs, Ended, isEnd, priceOf, facts}
-use Rattle.journal.specs.Sums.{closedIn, termsIn, movedOn, todayIn, orElse, instructedIn, isGraceDay, gracePriceIn, graceClosedIn}
+use Rattle.journal.specs.Sums.{closedDaysIn, termsIn, movedOn, todayIn, orElse, instructedIn, isGraceDay, gracePriceIn, graceClosedIn}
 use Rattle.journal.specs.Promise.{HasCapPrice, EveryCapPrice}
 use Rattle.journal.proofs.Moves.{Agrees, told-held}
 use Rattle.journal.proofs.Model.{Known, played-known}
@@ -38,7 +38,7 @@ or-true false = refl
 -- ---- one call more
 module _ (o : Opening) (b : Book) (es : List Event) (e : Event) (g : Agrees o b es) (k : EveryCapPrice o es) where
   abbrev cs : List Day
-  cs = listed (closedIn o)
+  cs = listedDays (closedDaysIn o)
 
   -- the age of an instruction today
   abbrev age : Instructed → Day → ℕ
@@ -104,7 +104,7 @@ module _ (o : Opening) (b : Book) (es : List Event) (e : Event) (g : Agrees o b 
       instructed = ap (λ (d : Option Instructed). orElse d (instructedIn n es)) (sym (made n)) ∙ r
 
       there : nextAfter cs (todayIn o es) ≡ At next
-      there = ap₂ (λ (s : Setup) (d : Day). nextAfter (listed (s .«closed_days»)) d) (sym (g .setup)) (sym (g .today)) ∙ q
+      there = ap₂ (λ (s : Setup) (d : Day). nextAfter (listedDays (s .«closed_days»)) d) (sym (g .setup)) (sym (g .today)) ∙ q
 
       next-age : age i (todayIn o (e ∷ es)) ≡ age i next
       next-age = ap (age i) (today-is n true _ t refl ∙ ap (λ (d : NextDay). movedOn d (todayIn o es)) there)

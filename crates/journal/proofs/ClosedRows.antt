@@ -9,10 +9,10 @@ use borrow.Author.Tests.{lt-ltb, leb-false, ne-eqb}
 use Rattle.basics.specs.Choice.{pick}
 use Rattle.basics.proofs.Cases.{pick-case}
 use Rattle.calendar.specs.declared.Day.{Day}
-use Rattle.calendar.specs.Closed.{listed as closedListed}
+use Rattle.calendar.specs.Closed.{listedDays}
 use Rattle.calendar.proofs.Ages.{age-early}
 use Rattle.offers.specs.declared.Offer.{Offer}
-use Rattle.offers.specs.Held.{listed}
+use Rattle.offers.specs.Held.{listedOffers}
 use Rattle.ledger.specs.declared.Deal.{Deal}
 use Rattle.ledger.specs.declared.Stage.{Stage}
 use Rattle.ledger.specs.declared.Wishes.{Wishes}
@@ -72,7 +72,7 @@ module _ (d : DayEnd) (offers : List Offer) (n : ℕ) (o : Obligation) where
           pick (t && true) (stages d age offers n o) (nothing o) .obligation .stage .«grace_price» ≡ pick grace (d .price) (o .stage .«grace_price»)
       by true e = ap (λ (s : Stage). s .«grace_price») (stages-beside d age offers n o .stage) ∙ priced-price
       by false e =
-          let young = age-early (closedListed (d .setup .«closed_days»)) (o .deal .day) (d .today) (omega (arith, leb-false (o .deal .day .0) (d .today .0) e)) in
+          let young = age-early (listedDays (d .setup .«closed_days»)) (o .deal .day) (d .today) (omega (arith, leb-false (o .deal .day .0) (d .today .0) e)) in
           rw (ne-eqb age (d .setup .terms .grace .0) (λ z. omega arith))
 
 -- ---- all obligations
@@ -81,7 +81,7 @@ module _ (b : Book) (v : Valid b) (d : DayEnd) (e : Ends b d) (next : Day) where
   l = b .ledger
 
   abbrev xs : List Offer
-  xs = listed (l .offers)
+  xs = listedOffers (l .offers)
 
   abbrev after : Book
   after = closedBook b d next

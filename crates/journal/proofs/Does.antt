@@ -13,7 +13,7 @@ use Rattle.calendar.specs.declared.Day.{Day}
 use Rattle.calendar.specs.declared.NextDay.the-variants.{At}
 use Rattle.offers.specs.declared.Offer.{Offer}
 use Rattle.offers.specs.Rank.{ranked}
-use Rattle.offers.specs.Held.{listed}
+use Rattle.offers.specs.Held.{listedOffers}
 use Rattle.instructions.specs.Legs.{entered}
 use Rattle.ledger.specs.Lines.{wordsInLine}
 use Rattle.ledger.specs.declared.Ledger.{Ledger}
@@ -46,7 +46,7 @@ pub record Leaves (b after : Book) (f : Facts) : Type 0 where
   pub close-since : after .day .«close_since» ≡ pick (isEnd (f .ends)) true (pick (isMonth (f .collects)) false (b .day .«close_since»))
   pub has-closed : after .day .«has_closed» ≡ pick (isEnd (f .ends)) true (b .day .«has_closed»)
   pub last : after .last ≡ pick (isEnd (f .ends)) (keptFrom (reported (f .ends))) (b .last)
-  pub offers : (xs : List Offer) → listed (b .ledger .offers) ≡ ranked xs → listed (after .ledger .offers) ≡ ranked (pick (isEnd (f .ends)) [] (f .offers ++ xs))
+  pub offers : (xs : List Offer) → listedOffers (b .ledger .offers) ≡ ranked xs → listedOffers (after .ledger .offers) ≡ ranked (pick (isEnd (f .ends)) [] (f .offers ++ xs))
   pub legs : entered (after .legs) ≡ legsAfter (f .legs) (entered (b .legs))
   pub amounts : NewAmounts b after (f .legs)
   pub proper : Proper (f .legs) (entered (b .legs))

@@ -50,7 +50,7 @@ use Rattle.book.proofs as laws
 use Rattle.book.proofs.Kept.{Good, good, matched-room}
 use Rattle.book.proofs.Refused.{entered-zero}
 use Rattle.journal.specs.Calls.{Call}
-use Rattle.journal.specs.Played.{ofDone, ofEntered, ofCancelled, ofDelivered, ofClosed, ofPaid, outcome}
+use Rattle.journal.specs.Played.{ofDone, ofEntered, ofCancelled, ofDelivered, ofClosed, ofPaid, outcomeOf}
 use Rattle.journal.specs.Facts.{enters, withdraws, neither, Instructed, instructedBy, instructs, onlyLegs, onlyMoves}
 use Rattle.journal.specs.History.{legIntoState}
 use Rattle.journal.proofs.Rows.{instructedFrom, instructedAt, RowNew, Rows, rows-more}
@@ -74,7 +74,7 @@ module _ (b : Book) (v : Valid b) where
       entered-state (b .legs) (v .legs) k h state ∙ ap (λ (l : Leg). set ls k (inState state l)) (sym (entered-at k h))
 
   -- ---- Withdraw
-  withdraw-does : (leg member : ℕ) → Valid (outcome b (Call.withdraw leg member) .book) → DoesAs b (Call.withdraw leg member) (outcome b (Call.withdraw leg member))
+  withdraw-does : (leg member : ℕ) → Valid (outcomeOf b (Call.withdraw leg member) .book) → DoesAs b (Call.withdraw leg member) (outcomeOf b (Call.withdraw leg member))
   withdraw-does leg member =
       laws.Outcomes.withdraw-case b (λ (x : Done). Valid (x .book) → DoesAs b (Call.withdraw leg member) (ofDone x)) leg member
       (λ i z w. refused-does b v (Call.withdraw leg member) i [] [] z)
@@ -179,7 +179,7 @@ module _ (b : Book) (v : Valid b) where
         proper = (sym entered-length, fresh, rw e (omega (arith, entered-length, f .0), λ z. omega arith));
       }) (due-later new (n + 1) (g .from-today))
 
-  enter-does : (member other side q a : ℕ) (j : Day) → Valid (outcome b (Call.enter member other side q a j) .book) → DoesAs b (Call.enter member other side q a j) (outcome b (Call.enter member other side q a j))
+  enter-does : (member other side q a : ℕ) (j : Day) → Valid (outcomeOf b (Call.enter member other side q a j) .book) → DoesAs b (Call.enter member other side q a j) (outcomeOf b (Call.enter member other side q a j))
   unfolding rules.Instructing.enter
   enter-does member other side q a j =
       let new = newLeg member other side q a j in
@@ -201,13 +201,13 @@ module _ (b : Book) (v : Valid b) where
     fits = omega arith;
   }
 
-  deliver-does : (n q : ℕ) → Valid (outcome b (Call.deliver n q) .book) → DoesAs b (Call.deliver n q) (outcome b (Call.deliver n q))
+  deliver-does : (n q : ℕ) → Valid (outcomeOf b (Call.deliver n q) .book) → DoesAs b (Call.deliver n q) (outcomeOf b (Call.deliver n q))
   deliver-does n q =
       laws.Outcomes.deliver-case b (λ (x : Delivered). Valid (x .book) → DoesAs b (Call.deliver n q) (ofDelivered x)) n q
       (λ i z w. refused-does b v (Call.deliver n q) i (0 ∷ []) [] z)
       (λ h e w. rows-does _ _ _ w refl refl refl refl refl refl refl (rows-moved b v part.Delivered n q h))
 
-  cancel-does : (n member : ℕ) → Valid (outcome b (Call.cancel n member) .book) → DoesAs b (Call.cancel n member) (outcome b (Call.cancel n member))
+  cancel-does : (n member : ℕ) → Valid (outcomeOf b (Call.cancel n member) .book) → DoesAs b (Call.cancel n member) (outcomeOf b (Call.cancel n member))
   unfolding cancelRefusalsOf
   cancel-does n member =
       laws.Outcomes.cancel-case b (λ (x : Cancelled). Valid (x .book) → DoesAs b (Call.cancel n member) (ofCancelled x)) n member
@@ -215,7 +215,7 @@ module _ (b : Book) (v : Valid b) where
       (λ h e w. rows-does _ _ _ w refl refl refl refl refl refl refl (rows-wished b v n member h (not-false _ (or-false (passed 14 _ _ e refl .0) .0))))
 
   -- ---- Offer
-  offer-does : (n supplier q price : ℕ) → Valid (outcome b (Call.offer n supplier q price) .book) → DoesAs b (Call.offer n supplier q price) (outcome b (Call.offer n supplier q price))
+  offer-does : (n supplier q price : ℕ) → Valid (outcomeOf b (Call.offer n supplier q price) .book) → DoesAs b (Call.offer n supplier q price) (outcomeOf b (Call.offer n supplier q price))
   offer-does n supplier q price =
       laws.Outcomes.offer-case b (λ (x : Done). Valid (x .book) → DoesAs b (Call.offer n supplier q price) (ofDone x)) n supplier q price
       (λ i z w. refused-does b v (Call.offer n supplier q price) i [] [] z)
@@ -231,7 +231,7 @@ module _ (b : Book) (v : Valid b) where
       }) (λ k i e. absurd (no-some e)))
 
   -- ---- Close
-  close-does : (price rate : ℕ) (ws : List ℕ) → DoesAs b (Call.close price rate ws) (outcome b (Call.close price rate ws))
+  close-does : (price rate : ℕ) (ws : List ℕ) → DoesAs b (Call.close price rate ws) (outcomeOf b (Call.close price rate ws))
   close-does price rate ws =
       laws.Outcomes.close-case b v (λ (x : Closed) (us : List ℕ). DoesAs b (Call.close price rate ws) (ofClosed x us)) price rate ws
       (λ i z. refused-does b v (Call.close price rate ws) i (0 ∷ []) ws z)
@@ -248,14 +248,14 @@ module _ (b : Book) (v : Valid b) where
       }))
 
   -- ---- Again
-  again-does : (ws : List ℕ) → DoesAs b (Call.again ws) (outcome b (Call.again ws))
+  again-does : (ws : List ℕ) → DoesAs b (Call.again ws) (outcomeOf b (Call.again ws))
   again-does ws =
       laws.Outcomes.again-case b (λ (x : Closed) (us : List ℕ). DoesAs b (Call.again ws) (ofClosed x us)) ws
       (λ i z. refused-does b v (Call.again ws) i (0 ∷ []) ws z)
       (λ e. does-nothing b b _ v refl refl refl refl refl)
 
   -- ---- Month
-  month-does : (cs ps : List ℕ) → DoesAs b (Call.month cs ps) (outcome b (Call.month cs ps))
+  month-does : (cs ps : List ℕ) → DoesAs b (Call.month cs ps) (outcomeOf b (Call.month cs ps))
   unfolding rules.Month.month paidOut
   month-does cs ps =
       by-number₂ (λ (x : Done) (us : List ℕ). DoesAs b (Call.month cs ps) (ofPaid x us cs)) (monthAnswer b cs (length ps)) (record { answer = 0; book = monthBook b }) (doneRefused b)
@@ -270,7 +270,7 @@ module _ (b : Book) (v : Valid b) where
         fits = omega arith;
       })
 
-  pub call-does : (c : Call) → DoesAs b c (outcome b c)
+  pub call-does : (c : Call) → DoesAs b c (outcomeOf b c)
   call-does (Call.enter member other side q a j) = enter-does member other side q a j (laws.Kept.enter-valid b v member other side q a j)
   call-does (Call.withdraw leg member) = withdraw-does leg member (laws.Kept.withdraw-valid b v leg member)
   call-does (Call.cancel n member) = cancel-does n member (laws.Kept.cancel-valid b v n member)

@@ -11,14 +11,14 @@ use Rattle.basics.specs.Lists.{total}
 use Rattle.basics.specs.Refusals.{answer}
 use Rattle.basics.proofs.Refusals.{passed}
 use Rattle.calendar.specs.declared.Day.{Day}
-use Rattle.calendar.specs.Closed.{day, closedDays, closedRefused, listed}
+use Rattle.calendar.specs.Closed.{day, closedDays, closedRefused, listedDays}
 use Rattle.refusals.specs.Calls.{badFirst}
 use Rattle.book.specs.Book.{Valid}
 use Rattle.book.specs.Open.{opened, openRefusals, openRefused, termsOf, freshBook, refusedBook}
 use Rattle.book.proofs.FreshBooks.{fresh-valid, refused-valid, first-good}
 use Rattle.book.proofs.Paid.{zero-at}
 use Rattle.journal.specs.Calls.{Opening, Call, Run}
-use Rattle.journal.specs.Played.{outcome, eventOf, begun, step, played, callsOf}
+use Rattle.journal.specs.Played.{outcomeOf, eventOf, begun, step, played, callsOf}
 use Rattle.journal.specs.Sums.{setupIn, firstDay, todayIn, instructedIn, partIn, wishedIn, gracePriceIn, accountIn, lastClosedIn}
 use Rattle.journal.specs.Promise.{EveryMonth}
 use Rattle.journal.proofs.Moves.{Agrees, agrees-step}
@@ -61,7 +61,7 @@ open-agrees o = by (eqb n 0) refl
         let p1 = passed 1 (ltb 1 (o .terms)) _ (eqb-true n 0 e) refl in
         let p4 = passed 4 (closedRefused (o .closed)) _ (p1 .1) refl in
         let p11 = passed 11 (badFirst (closedDays (o .closed)) (o .first)) _ (p4 .1) refl in
-        let good = first-good (listed (closedDays (o .closed))) (o .first) (p11 .0) in
+        let good = first-good (listedDays (closedDays (o .closed))) (o .first) (p11 .0) in
         fresh-agrees o (o .first) (o .closed) (o .terms) (fresh-valid (o .first) (o .closed) (o .terms) (p4 .0) (good .0) (good .1)) (rw e) (rw e)
     by false e = fresh-agrees o (day 2) [] 0 refused-valid (rw e) (rw e)
 
@@ -74,9 +74,9 @@ step-known s c k =
     let d = call-does (s .book) (k .agrees .valid) c in
     let e = eventOf (s .book) c in
     record {
-      agrees = agrees-step (s .opening) (s .book) (outcome (s .book) c .book) (s .past) e (k .agrees) (d .moves);
+      agrees = agrees-step (s .opening) (s .book) (outcomeOf (s .book) c .book) (s .past) e (k .agrees) (d .moves);
       answered = ap (λ (r : Run). step r c) (k .answered);
-      months = (month-pays (s .opening) (s .book) (outcome (s .book) c .book) (s .past) e (k .agrees) d, k .months);
+      months = (month-pays (s .opening) (s .book) (outcomeOf (s .book) c .book) (s .past) e (k .agrees) d, k .months);
     }
 
 pub played-known : (o : Opening) (cs : List Call) → Known (played o cs)

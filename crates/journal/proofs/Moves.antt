@@ -14,7 +14,7 @@ use Rattle.basics.specs.Choice.{pick}
 use Rattle.basics.specs.Lists.{total}
 use Rattle.basics.proofs.Cases.{and-true, and-no}
 use Rattle.calendar.specs.declared.Day.{Day}
-use Rattle.calendar.specs.Closed.{listed}
+use Rattle.calendar.specs.Closed.{listedDays}
 use Rattle.calendar.specs.Days.{nextAfter}
 use Rattle.ledger.specs.declared.Setup.{Setup}
 use Rattle.ledger.specs.declared.Part.{Part}
@@ -78,7 +78,7 @@ Stands b n = n < b .ledger .count → 0 < obligationAt (b .ledger) n .parts .out
 pub record Moves (b after : Book) (f : Facts) : Type 0 where
   pub valid : Valid after
   pub setup : after .setup ≡ b .setup
-  pub today : after .day .today ≡ pick (isEnd (f .ends)) (movedOn (nextAfter (listed (b .setup .«closed_days»)) (b .day .today)) (b .day .today)) (b .day .today)
+  pub today : after .day .today ≡ pick (isEnd (f .ends)) (movedOn (nextAfter (listedDays (b .setup .«closed_days»)) (b .day .today)) (b .day .today)) (b .day .today)
   pub rows : Rows b after f
   pub accounts : (m : ℕ) → getD (after .ledger .accounts) m (pos 0) ≡
       pick (isMonth (f .collects)) (pos 0) (getD (b .ledger .accounts) m (pos 0) +ℤ penaltiesOf m (heldSides b) (reported (f .ends)))
@@ -215,7 +215,7 @@ module _ (o : Opening) (b after : Book) (es : List Event) (e : Event) (g : Agree
   agrees-step = record {
     valid = m .valid;
     setup = m .setup ∙ g .setup;
-    today = m .today ∙ ap₂ (λ (s : Setup) (d : Day). pick (isEnd (facts e .ends)) (movedOn (nextAfter (listed (s .«closed_days»)) d) d) d) (g .setup) (g .today);
+    today = m .today ∙ ap₂ (λ (s : Setup) (d : Day). pick (isEnd (facts e .ends)) (movedOn (nextAfter (listedDays (s .«closed_days»)) d) d) d) (g .setup) (g .today);
     instructed = λ n. instructed-step n ∙ ap (orElse (instructs n (facts e .legs))) (g .instructed n);
     parts = λ n k. part-step n k ∙ ap (λ (x : ℕ). movedBy k n (facts e) + x) (g .parts n k);
     prices = λ n s.

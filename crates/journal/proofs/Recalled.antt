@@ -9,7 +9,7 @@ use lib.Dec.{ltb}
 use lib.ListN.{length, getD, List·getD-eq-default}
 use borrow.Author.Tests.{lt-ltb, le-ltb, eq-eqb, ne-eqb}
 use Rattle.offers.specs.Rank.{ranked, InOrder}
-use Rattle.offers.specs.Held.{listed}
+use Rattle.offers.specs.Held.{listedOffers}
 use Rattle.offers.proofs.Ranking.{ranked-in-order}
 use Rattle.instructions.specs.declared.Leg.{Leg}
 use Rattle.instructions.specs.declared.LegState.the-variants.{Waiting}
@@ -57,8 +57,8 @@ pub record Remembered (s : Run) : Type 0 where
   pub cap-price : (n : ℕ) → n < s .book .ledger .count → 0 < obligationAt (s .book .ledger) n .parts .outstanding →
       s .book .setup .terms .grace .0 < ageOf (s .book) (obligationAt (s .book .ledger) n) → 1 ≤ obligationAt (s .book .ledger) n .stage .«grace_price»
   -- B5 and C7, Buy-in and Close: the offers of today, in the order of their turns
-  pub offers : listed (s .book .ledger .offers) ≡ ranked (offersIn (s .past))
-  pub in-order : InOrder (offersIn (s .past)) (listed (s .book .ledger .offers))
+  pub offers : listedOffers (s .book .ledger .offers) ≡ ranked (offersIn (s .past))
+  pub in-order : InOrder (offersIn (s .past)) (listedOffers (s .book .ledger .offers))
   -- K1 and K4, Cancel: the wishes of the seller and of the buyer
   pub seller-wish : (n : ℕ) → n < s .book .ledger .count →
       obligationAt (s .book .ledger) n .wishes .seller ≡ wishedIn n (obligationAt (s .book .ledger) n .deal .seller) (s .past)

@@ -16,7 +16,7 @@ use Rattle.calendar.specs.declared.Day.{Day}
 use Rattle.calendar.specs.declared.ClosedDays.{ClosedDays}
 use Rattle.calendar.specs.Closed.{day, closedDays}
 use Rattle.offers.specs.Rank.{ranked}
-use Rattle.offers.specs.Held.{listed}
+use Rattle.offers.specs.Held.{listedOffers}
 use Rattle.offers.proofs.Holding.{listed-none}
 use Rattle.instructions.specs.declared.Leg.{Leg}
 use Rattle.instructions.specs.Legs.{entered}
@@ -27,7 +27,7 @@ use Rattle.book.specs.declared.Book.{Book}
 use Rattle.book.specs.declared.Opened.{Opened}
 use Rattle.book.specs.Open.{opened, openRefusals, openRefused, freshBook, refusedBook}
 use Rattle.journal.specs.Calls.{Opening, Call, Event, Run}
-use Rattle.journal.specs.Played.{outcome, eventOf, played, callsOf}
+use Rattle.journal.specs.Played.{outcomeOf, eventOf, played, callsOf}
 use Rattle.journal.specs.Facts.{LegChange, enters, withdraws, neither, instructedBy, instructs, isEnd, reported, facts}
 use Rattle.journal.specs.Sums.{orElse, isMonth}
 use Rattle.journal.specs.History.{closeSinceIn, latestClose, wasClose, latestLines, offersIn, legsAfter, legsIn, enteredAs, legIn, waitsAfter, waitingIn, amountWith, amountBy, amountIn}
@@ -43,7 +43,7 @@ pub record Recalls (b : Book) (es : List Event) : Type 0 where
   pub has-closed : b .day .«has_closed» ≡ wasClose (latestClose es)
   pub last : b .last ≡ keptFrom (latestLines (latestClose es))
   pub fits : (x : Event) → latestClose es ≡ some x → wordsInLine * length (reported (facts x .ends)) ≤ length (x .words)
-  pub offers : listed (b .ledger .offers) ≡ ranked (offersIn es)
+  pub offers : listedOffers (b .ledger .offers) ≡ ranked (offersIn es)
   pub legs : entered (b .legs) ≡ legsIn es
   pub leg : (n : ℕ) → legOf n (legsIn es) ≡ legIn n es
   pub waits : (n : ℕ) → waitsOf n (legsIn es) ≡ waitingIn n es
@@ -131,7 +131,7 @@ played-recalls o [] = open-recalls o
 played-recalls o (c ∷ earlier) =
     let s = played o earlier in
     let d = call-does (s .book) (played-known o earlier .agrees .valid) c in
-    recalls-step (s .book) (outcome (s .book) c .book) (s .past) (eventOf (s .book) c) (d .moves .rows) (d .leaves) (d .fits) (played-recalls o earlier)
+    recalls-step (s .book) (outcomeOf (s .book) c .book) (s .past) (eventOf (s .book) c) (d .moves .rows) (d .leaves) (d .fits) (played-recalls o earlier)
 
 -- of every run that is known
 pub known-recalls : (s : Run) → Known s → RunRecalls s

@@ -12,7 +12,7 @@ use Rattle.book.specs.Book.{Valid}
 use Rattle.book.proofs as laws
 use Rattle.book.proofs.Book as code
 use Rattle.journal.specs.Calls.{Opening, Call, Run}
-use Rattle.journal.specs.Played.{Outcome, ofDone, ofEntered, ofCancelled, ofDelivered, ofClosed, outcome, after, played}
+use Rattle.journal.specs.Played.{Outcome, ofDone, ofEntered, ofCancelled, ofDelivered, ofClosed, outcomeOf, after, played}
 use Rattle.journal.proofs.Model.{Known, begun-known, step-known, played-known}
 use Rattle.journal.proofs.Months.{debts-agree}
 use Rattle.journal.proofs.CapPrices.{known-capped}
@@ -23,7 +23,7 @@ use Rattle.journal.proofs.Reprints.{again-shows, again-learnt, again-re
 use Rattle.journal.proofs.Demand3.{Called, Ran, May, SameAsEmpty, Promise, Demand3}
 
 -- ---- by its contract, a call answers what the rules give
-called-is : {b : Book} {c : Call} {r : Outcome} → Called b c r → r ≡ outcome b c
+called-is : {b : Book} {c : Call} {r : Outcome} → Called b c r → r ≡ outcomeOf b c
 called-is (Called.entered member other side q a j r x h) = ap ofEntered (h .0)
 called-is (Called.withdrew leg member r x h) = ap ofDone (h .0)
 called-is (Called.cancelled n member r x h) = ap ofCancelled (h .0)
@@ -97,7 +97,7 @@ abbrev lent : List ℕ → RefT (List ℕ)
 lent ws = record { ptr = (0, 0); name = 0; now = ws }
 
 -- every call on a valid book can be made
-calls : (b : Book) → Valid b → (c : Call) → Called b c (outcome b c)
+calls : (b : Book) → Valid b → (c : Call) → Called b c (outcomeOf b c)
 calls b v (Call.enter member other side q a j) =
     Called.entered member other side q a j _ (b, (member, (other, (side, (q, (a, (j, tt))))))) (refl, laws.Kept.enter-valid b v member other side q a j)
 calls b v (Call.withdraw leg member) = Called.withdrew leg member _ (b, (leg, (member, tt))) (refl, laws.Kept.withdraw-valid b v leg member)

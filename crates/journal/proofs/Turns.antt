@@ -11,9 +11,9 @@ use Rattle.basics.proofs.Cases.{below-or-not}
 use Rattle.calendar.specs.declared.Day.{Day}
 use Rattle.calendar.specs.declared.NextDay.{NextDay}
 use Rattle.calendar.specs.declared.NextDay.the-variants.{At}
-use Rattle.calendar.specs.Closed.{listed}
+use Rattle.calendar.specs.Closed.{listedDays}
 use Rattle.calendar.proofs.Ages.{age-early}
-use Rattle.offers.specs.Held.{listed as listedOffers}
+use Rattle.offers.specs.Held.{listedOffers}
 use Rattle.ledger.specs.declared.Obligation.{Obligation}
 use Rattle.ledger.specs.Ledger.{obligationAt}
 use Rattle.ledger.proofs.Keeping.{last-after, sides-sound}
@@ -38,7 +38,7 @@ pub reached : (b : Book) (o : Obligation) → 0 < ageOf b o → o .deal .day .0 
 unfolding ageOf
 reached b o h =
     ⊎-elim
-    (λ (z : b .day .today .0 < o .deal .day .0). absurd (omega (arith, h, age-early (listed (b .setup .«closed_days»)) (o .deal .day) (b .day .today) (omega arith))))
+    (λ (z : b .day .today .0 < o .deal .day .0). absurd (omega (arith, h, age-early (listedDays (b .setup .«closed_days»)) (o .deal .day) (b .day .today) (omega arith))))
     (λ (z : o .deal .day .0 ≤ b .day .today .0). z)
     (below-or-not (b .day .today .0) (o .deal .day .0))
 

@@ -46,16 +46,16 @@ abbrev pub ofPaid : Done → List ℕ → List ℕ → Outcome
 ofPaid r payouts collected = record { answer = r .answer; results = []; words = payouts; kept = collected; book = r .book }
 
 -- J3, Whole journals: each call by its own definition. The collected amounts of a Month end as they were lent.
-abbrev pub outcome : Book → Call → Outcome
-outcome b (Call.enter member other side q a j) = ofEntered (rules.Instructing.enter b member other side q a j)
-outcome b (Call.withdraw leg member) = ofDone (rules.Instructing.withdraw b leg member)
-outcome b (Call.cancel n member) = ofCancelled (rules.Instructing.cancel b n member)
-outcome b (Call.deliver n q) = ofDelivered (rules.Instructing.deliver b n q)
-outcome b (Call.offer n supplier q price) = ofDone (rules.Buying.offer b n supplier q price)
-outcome b (Call.close price rate lines) =
+abbrev pub outcomeOf : Book → Call → Outcome
+outcomeOf b (Call.enter member other side q a j) = ofEntered (rules.Instructing.enter b member other side q a j)
+outcomeOf b (Call.withdraw leg member) = ofDone (rules.Instructing.withdraw b leg member)
+outcomeOf b (Call.cancel n member) = ofCancelled (rules.Instructing.cancel b n member)
+outcomeOf b (Call.deliver n q) = ofDelivered (rules.Instructing.deliver b n q)
+outcomeOf b (Call.offer n supplier q price) = ofDone (rules.Buying.offer b n supplier q price)
+outcomeOf b (Call.close price rate lines) =
     ofClosed (rules.Close.close b price rate (length lines)) (rules.Close.closeWords b price rate lines)
-outcome b (Call.again lines) = ofClosed (rules.Again.again b (length lines)) (rules.Again.againWords b lines)
-outcome b (Call.month collected payouts) =
+outcomeOf b (Call.again lines) = ofClosed (rules.Again.again b (length lines)) (rules.Again.againWords b lines)
+outcomeOf b (Call.month collected payouts) =
     ofPaid (rules.Month.month b collected (length payouts)) (rules.Month.monthWords b collected payouts) collected
 
 -- a call with what came of it
@@ -64,7 +64,7 @@ eventWith c r = record { call = c; answer = r .answer; results = r .results; wor
 
 -- a call with what comes of it by the rules
 abbrev pub eventOf : Book → Call → Event
-eventOf b c = eventWith c (outcome b c)
+eventOf b c = eventWith c (outcomeOf b c)
 
 -- J1 and J3, Whole journals: the book that an Open returned, accepted or refused, and no call yet. The closed days end as
 -- they were lent.
@@ -79,7 +79,7 @@ after s c r = record { opening = s .opening; began = s .began; book = r .book; p
 
 -- one call more, with what comes of it by the rules
 abbrev pub step : Run → Call → Run
-step s c = after s c (outcome (s .book) c)
+step s c = after s c (outcomeOf (s .book) c)
 
 -- J3, Whole journals: what an Open and a list of calls lead to, worked out from nothing but these. The latest call stands
 -- first.

@@ -12,7 +12,7 @@ use Rattle.calendar.specs.declared.Day.{Day}
 use Rattle.calendar.specs.declared.ClosedDays.{ClosedDays}
 use Rattle.calendar.specs.declared.NextDay.{NextDay}
 use Rattle.calendar.specs.declared.NextDay.the-variants.{At, Never}
-use Rattle.calendar.specs.Closed.{day, closedDays, listed}
+use Rattle.calendar.specs.Closed.{day, closedDays, listedDays}
 use Rattle.calendar.specs.Days.{ageAt, nextAfter}
 use Rattle.netting.specs.Accounts.{memberCount, claim, owed}
 use Rattle.ledger.specs.declared.Setup.{Setup}
@@ -38,8 +38,8 @@ abbrev pub firstDay : Opening → Day
 firstDay o = openedWith o (o .first) (day 2)
 
 -- O5 and O6, Open: the closed days
-abbrev pub closedIn : Opening → ClosedDays
-closedIn o = openedWith o (closedDays (o .closed)) (closedDays [])
+abbrev pub closedDaysIn : Opening → ClosedDays
+closedDaysIn o = openedWith o (closedDays (o .closed)) (closedDays [])
 
 -- O5 and O6, Open: the terms
 abbrev pub termsIn : Opening → Terms
@@ -47,7 +47,7 @@ termsIn o = openedWith o (termsOf (o .terms)) (termsOf 0)
 
 -- O5 and O6, Open: the closed days and the terms, to which the book keeps
 abbrev pub setupIn : Opening → Setup
-setupIn o = record { «closed_days» = closedIn o; terms = termsIn o }
+setupIn o = record { «closed_days» = closedDaysIn o; terms = termsIn o }
 
 -- C17, Close: today moves on to the next clearing day. An accepted Close has one: without a next clearing day a Close is
 -- refused by 20 (R20), so that the day stays.
@@ -58,7 +58,7 @@ movedOn Never today = today
 -- O5, Open, and C17, Close: today is Open's first day, moved on to the next clearing day by each accepted Close
 unfoldable pub todayIn : Opening → List Event → Day
 todayIn o [] = firstDay o
-todayIn o (e ∷ es) = pick (isEnd (facts e .ends)) (movedOn (nextAfter (listed (closedIn o)) (todayIn o es)) (todayIn o es)) (todayIn o es)
+todayIn o (e ∷ es) = pick (isEnd (facts e .ends)) (movedOn (nextAfter (listedDays (closedDaysIn o)) (todayIn o es)) (todayIn o es)) (todayIn o es)
 
 -- ---- the obligations of a journal
 -- the first of two that is there
@@ -83,7 +83,7 @@ outstandingIn n i es = i .quantity - total (λ k. partIn k n es) everyPart
 
 -- B1, Buy-in: the age of what was instructed, after these events
 abbrev pub ageIn : Opening → Instructed → List Event → ℕ
-ageIn o i es = ageAt (listed (closedIn o)) (i .day) (todayIn o es) .0
+ageIn o i es = ageAt (listedDays (closedDaysIn o)) (i .day) (todayIn o es) .0
 
 -- ---- what an obligation stores
 -- K1 and K4, Cancel: whether an accepted Cancel of obligation n by member m is among the events

@@ -13,7 +13,7 @@ use Rattle.netting.specs.Accounts.{memberCount, balance}
 use Rattle.offers.specs.declared.Offer.{Offer}
 use Rattle.offers.specs.declared.Offers.{Offers}
 use Rattle.offers.specs.Rank.{overtakes}
-use Rattle.offers.specs.Held.{mostOffers, noOffers, listed, withOffer}
+use Rattle.offers.specs.Held.{mostOffers, noOffers, listedOffers, withOffer}
 use Rattle.ledger.specs.declared.Obligation.{Obligation}
 use Rattle.ledger.specs.declared.Fetched.{Fetched}
 use Rattle.ledger.specs.declared.Fetched.the-variants.{Found, Absent}
@@ -87,8 +87,8 @@ pub record SoundOffer (n : ℕ) (x : Offer) : Type 0 where
 pub record ValidOffers (n : ℕ) (offers : Offers) : Type 0 where
   pub size : length (offers .rows) ≡ mostOffers
   pub few : offers .count ≤ mostOffers
-  pub sound : Every (SoundOffer n) (listed offers)
-  pub ranked : Sorted (λ x y. overtakes y x ≡ false) (listed offers)
+  pub sound : Every (SoundOffer n) (listedOffers offers)
+  pub ranked : Sorted (λ x y. overtakes y x ≡ false) (listedOffers offers)
 
 -- what holds of the accounts of every book
 pub record ValidAccounts (accounts : List ℤ) : Type 0 where

@@ -5,7 +5,7 @@ use mathlib.Core.Bool.{Bool, true, false, _&&_, _||_}
 use lib.Dec.{eqb, ltb, leb}
 use Rattle.basics.specs.Choice.{pick}
 use Rattle.calendar.specs.declared.Day.{Day}
-use Rattle.calendar.specs.Closed.{day, listed}
+use Rattle.calendar.specs.Closed.{day, listedDays}
 use Rattle.calendar.specs.Days.{ageAt}
 use Rattle.amounts.specs.Amounts.{mostQuantity, mostAmount, mostClosePrice, cash}
 use Rattle.netting.specs.Accounts.{memberCount}
@@ -27,7 +27,7 @@ latestDay = 60000
 
 -- B1, Buy-in: the age of an obligation on a day, with the closed days of a setup
 abbrev pub ageBy : Setup → Day → Obligation → ℕ
-ageBy setup today o = ageAt (listed (setup .«closed_days»)) (o .deal .day) today .0
+ageBy setup today o = ageAt (listedDays (setup .«closed_days»)) (o .deal .day) today .0
 
 -- E9, Enter: a new obligation has come to no stage yet
 abbrev pub newStage : Stage

@@ -8,18 +8,18 @@ use Rattle.basics.specs.Lists.{table, sum}
 use Rattle.basics.proofs.Places.{padded-front, padded-length}
 use Rattle.offers.specs.declared.Given.{Given}
 use Rattle.offers.specs.declared.Offers.{Offers}
-use Rattle.offers.specs.Held.{mostOffers, listed}
+use Rattle.offers.specs.Held.{mostOffers, listedOffers}
 use Rattle.offers.specs.BuyIn.{given, nothingGiven, boughtWith}
 use Rattle.offers.proofs.Giving.{given-most, given-all-most}
 
 -- no more places are filled than offers are held
-pub lines-most : (i left : ℕ) (s : Offers) → length (given i left (listed s)) ≤ s .count
-lines-most i left s = omega (arith, given-most i left (listed s), length-take (s .count) (s .rows))
+pub lines-most : (i left : ℕ) (s : Offers) → length (given i left (listedOffers s)) ≤ s .count
+lines-most i left s = omega (arith, given-most i left (listedOffers s), length-take (s .count) (s .rows))
 
 -- this also holds for all obligations below n together, whatever is left of each
 pub all-lines-most : (n : ℕ) (left : ℕ → ℕ) (s : Offers)
-    → sum (table n (λ i. length (given i (left i) (listed s)))) ≤ s .count
-all-lines-most n left s = omega (arith, given-all-most n left (listed s), length-take (s .count) (s .rows))
+    → sum (table n (λ i. length (given i (left i) (listedOffers s)))) ≤ s .count
+all-lines-most n left s = omega (arith, given-all-most n left (listedOffers s), length-take (s .count) (s .rows))
 
 -- the first count places hold what was given
 pub bought-given : (gs : List Given) → take (boughtWith gs .count) (boughtWith gs .given) ≡ gs

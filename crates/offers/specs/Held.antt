@@ -19,9 +19,9 @@ abbrev pub noOffers : Offers
 noOffers = record { rows = replicate mostOffers noOffer; count = 0 }
 
 -- B5, Buy-in: the offers of today, in the order of the auction; the rows behind them are free
-abbrev pub listed : Offers → List Offer
-listed s = take (s .count) (s .rows)
+abbrev pub listedOffers : Offers → List Offer
+listedOffers s = take (s .count) (s .rows)
 
 -- B4, Buy-in: one offer more, at its place in the order of the auction (C7); the free rows behind it stay as they were
 abbrev pub withOffer : Offers → Offer → Offers
-withOffer s o = record { rows = inserted o (listed s) ++ drop (s .count + 1) (s .rows); count = s .count + 1 }
+withOffer s o = record { rows = inserted o (listedOffers s) ++ drop (s .count + 1) (s .rows); count = s .count + 1 }

@@ -5,7 +5,7 @@ ghost use Prim.Native.Nat.{_≤_, _<_, min};
 ghost use lib.Dec.{eqb};
 ghost use Rattle.basics.specs.Choice.{pick};
 ghost use Rattle.offers.specs.Rank.{overtakes};
-ghost use Rattle.offers.specs.Held.{mostOffers, noOffers, listed, withOffer};
+ghost use Rattle.offers.specs.Held.{mostOffers, noOffers, listedOffers, withOffer};
 ghost use Rattle.offers.specs.BuyIn.{given, boughtWith};
 
 // The most offers of a day; `mostOffers` in specs/.
@@ -121,7 +121,7 @@ impl Offers {
     // order of the auction, and skips an offer that gives nothing.
     pub fn buy_in(self, obligation: u64, left: u64) -> BuyIn
         requires { ⌜ self .count ≤ mostOffers ⌝ }
-        ensures { λ r. ⌜ r ≡ boughtWith (given obligation left (listed self)) ⌝ }
+        ensures { λ r. ⌜ r ≡ boughtWith (given obligation left (listedOffers self)) ⌝ }
     {
         let rows = self.rows;
         let n = self.count;

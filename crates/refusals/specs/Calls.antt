@@ -9,7 +9,7 @@ use Rattle.calendar.specs.declared.Day.{Day}
 use Rattle.calendar.specs.declared.ClosedDays.{ClosedDays}
 use Rattle.calendar.specs.declared.NextDay.{NextDay}
 use Rattle.calendar.specs.declared.NextDay.the-variants.{At, Never}
-use Rattle.calendar.specs.Closed.{lastDay, listed}
+use Rattle.calendar.specs.Closed.{lastDay, listedDays}
 use Rattle.calendar.specs.Days.{clearing}
 use Rattle.amounts.specs.Amounts.{mostQuantity, mostAmount, mostClosePrice, mostOfferPrice, mostRate, aboveCap}
 use Rattle.offers.specs.Held.{mostOffers}
@@ -40,7 +40,7 @@ fetchOutcome input (Found o) on done refused = outcome (answer (fetchRefusals in
 -- ---- Open and Enter
 -- R11, Refusals, of Open: the first day does not clear or is above 65,535
 abbrev pub badFirst : ClosedDays → Day → Bool
-badFirst closedDays first = ltb lastDay (first .0) || not (clearing (listed closedDays) first)
+badFirst closedDays first = ltb lastDay (first .0) || not (clearing (listedDays closedDays) first)
 
 -- R1, Refusals, of Enter: a member is above 31, both members are the same, or the side is above 1
 abbrev pub badParties : ℕ → ℕ → ℕ → Bool
@@ -48,7 +48,7 @@ badParties member other side = noMember member || (noMember other || (eqb member
 
 -- R11, Refusals, of Enter: J does not clear, is before today or is above 60,000
 abbrev pub badDay : ClosedDays → Day → Day → Bool
-badDay closedDays today j = not (clearing (listed closedDays) j) || (ltb (j .0) (today .0) || ltb latestDay (j .0))
+badDay closedDays today j = not (clearing (listedDays closedDays) j) || (ltb (j .0) (today .0) || ltb latestDay (j .0))
 
 -- A7, Refusals, of Enter: in a book with these closed days, this day and this many legs
 unfoldable pub enterRefusals : ClosedDays → Day → ℕ → Leg → List Refusal

@@ -16,7 +16,7 @@ use Rattle.reading.specs.declared.Line.{Line}
 use Rattle.answers.specs.Told.{numbersTold, closedTold, wordsTold}
 use Rattle.settle.specs.declared.calls.Asked.{Asked}
 use Rattle.settle.specs.declared.calls.Played.{Played}
-use Rattle.settle.specs.Calls.{played, listIn, lentTo, Asking, askingOf, answerBy, wordsBy, afterCall, wordsAfter}
+use Rattle.settle.specs.Calls.{playedWith, listIn, lentTo, Asking, askingOf, answerBy, wordsBy, afterCall, wordsAfter}
 use Rattle.settle.specs.Turns.{Gives}
 use Rattle.settle.specs.Turns.Gives.{opening, calling, showing, balancing, looking, targeting, ruling, passing, objecting}
 
@@ -52,34 +52,34 @@ module _ (b : Book) (a : Asked) (ns ws : List ℕ) (l : Line) (p : Played) (afte
     (gives : Gives b a ns ws l p after) where
   -- a withdraw: the book and the answer number of a Withdraw, and the words as they were
   pub withdraws : l ≡ Line.Call Name.Withdraw shape n
-      → (p ≡ played (withdraw b (a .first) (a .second) .book) (numbersTold (withdraw b (a .first) (a .second) .answer ∷ [])))
+      → (p ≡ playedWith (withdraw b (a .first) (a .second) .book) (numbersTold (withdraw b (a .first) (a .second) .answer ∷ [])))
       × (after ≡ ws)
   unfolding answerBy wordsBy
   withdraws e = asked-as gives e refl
 
   -- a close: the book, the answer number and the lines of a Close, in the words that it was lent
   pub closes : l ≡ Line.Call Name.Close shape n
-      → (p ≡ played (close b (a .first) (a .second) (a .lent) .book)
+      → (p ≡ playedWith (close b (a .first) (a .second) (a .lent) .book)
       (closedTold (close b (a .first) (a .second) (a .lent) .answer) (close b (a .first) (a .second) (a .lent) .count) (a .lent) (a .fill)))
       × (after ≡ closeWords b (a .first) (a .second) (lentTo a) ++ drop (a .lent) ws)
   unfolding answerBy wordsBy
   closes e =
       let is = asked-as gives e refl in (
         is .0
-            ∙ ap (λ (k : ℕ). let r = close b (a .first) (a .second) k in played (r .book) (closedTold (r .answer) (r .count) (a .lent) (a .fill)))
+            ∙ ap (λ (k : ℕ). let r = close b (a .first) (a .second) k in playedWith (r .book) (closedTold (r .answer) (r .count) (a .lent) (a .fill)))
             (length-replicate (a .lent) (a .fill)),
         is .1,
       )
 
   -- a month: the book and the answer number of a Month, with the payouts in the words that it was lent
   pub months : l ≡ Line.Call Name.Month shape n
-      → (p ≡ played (month b (listIn a ns) (a .lent) .book) (wordsTold (month b (listIn a ns) (a .lent) .answer ∷ []) (a .lent)))
+      → (p ≡ playedWith (month b (listIn a ns) (a .lent) .book) (wordsTold (month b (listIn a ns) (a .lent) .answer ∷ []) (a .lent)))
       × (after ≡ monthWords b (listIn a ns) (lentTo a) ++ drop (a .lent) ws)
   unfolding answerBy wordsBy
   months e =
       let is = asked-as gives e refl in (
         is .0
-            ∙ ap (λ (k : ℕ). let r = month b (listIn a ns) k in played (r .book) (wordsTold (r .answer ∷ []) (a .lent)))
+            ∙ ap (λ (k : ℕ). let r = month b (listIn a ns) k in playedWith (r .book) (wordsTold (r .answer ∷ []) (a .lent)))
             (length-replicate (a .lent) (a .fill)),
         is .1,
       )

@@ -7,7 +7,7 @@ use Rattle.calendar.specs.Closed.{day}
 use Rattle.book.specs.declared.Book.{Book}
 use Rattle.reading.specs.declared.Line.{Line}
 use Rattle.journal.specs.Calls.{Opening, Call, Run}
-use Rattle.journal.specs.Played.{outcome, played}
+use Rattle.journal.specs.Played.{outcomeOf, played}
 use Rattle.journal.proofs.Demand3.{Promise}
 use Rattle.journal.proofs.Theorem.{demand-3}
 use Rattle.settle.specs.declared.calls.Asked.{Asked}
@@ -28,11 +28,11 @@ opens-book : (o : Opening) → Leads (played o [] .book)
 opens-book o = record { opened = o; calls = []; there = refl }
 
 -- one more call leads to the book after it
-goes-on : {b : Book} (c : Call) → Leads b → Leads (outcome b c .book)
+goes-on : {b : Book} (c : Call) → Leads b → Leads (outcomeOf b c .book)
 goes-on c l = record {
   opened = l .opened;
   calls = c ∷ l .calls;
-  there = ap (λ (x : Book). outcome x c .book) (l .there);
+  there = ap (λ (x : Book). outcomeOf x c .book) (l .there);
 }
 
 -- an Open and a list of calls still lead to the book after any line

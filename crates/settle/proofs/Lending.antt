@@ -7,7 +7,7 @@ use lib.Seq.{take-append-seam, drop-append-seam}
 use Rattle.book.specs.declared.Closed.{Closed}
 use Rattle.answers.specs.Told.{closedTold}
 use Rattle.settle.specs.declared.calls.Played.{Played}
-use Rattle.settle.specs.Calls.{played}
+use Rattle.settle.specs.Calls.{playedWith}
 
 module _ (n value : ℕ) (words filled : List ℕ) (is : filled ≡ replicate n value ++ drop n words) where
   -- the first n words have the value
@@ -36,4 +36,4 @@ module _ (n value : ℕ) (words filled : List ℕ) (is : filled ≡ replicate n 
 
 -- a Close or an Again as it is told
 abbrev pub toldByLines : ℕ → ℕ → Closed → Played
-toldByLines n value r = played (r .book) (closedTold (r .answer) (r .count) n value)
+toldByLines n value r = playedWith (r .book) (closedTold (r .answer) (r .count) n value)

@@ -19,14 +19,14 @@ use Rattle.answers.specs.Text.{Tellable, answerText}
 use Rattle.answers.specs.Told.{numbersTold}
 use Rattle.answers.proofs.Tells.{answer-most, numbers-tells}
 use Rattle.journal.specs.Calls.{Call}
-use Rattle.journal.specs.Played.{outcome}
+use Rattle.journal.specs.Played.{outcomeOf}
 use Rattle.settle.specs.declared.calls.Asked.{Asked}
 use Rattle.settle.specs.declared.calls.Played.{Played}
 use Rattle.settle.specs.declared.flow.Course.{Course}
 use Rattle.settle.specs.declared.flow.Course.the-variants.{Going, Over, Failed}
 use Rattle.settle.specs.declared.flow.Flow.{Flow}
 use Rattle.settle.specs.Asked.{asks, noted}
-use Rattle.settle.specs.Calls.{played, atFirst, plain, askingOf, answerBy, wordsBy}
+use Rattle.settle.specs.Calls.{playedWith, atFirst, plain, askingOf, answerBy, wordsBy}
 use Rattle.settle.specs.Calls.Manner.{by-numbers}
 use Rattle.settle.specs.Flow.{FedOn, TakenOn, ToldOn}
 use Rattle.settle.specs.Turns.{Buffers, Gives, Held, begins, Reached, mostTurns, turnsLeft}
@@ -104,19 +104,19 @@ pub numbers-given : {R : Type 0} (told : R → Played) {b : Book} {a : Asked} {n
     {m name : Name} {shape : Shape} {n : ℕ} {c : Call} {r q : R}
     → a .line ≡ Line.Call m shape n → m ≡ name → askingOf name a ns ≡ plain c
     → p ≡ told r → r ≡ q → Valid (told r .book)
-    → told q ≡ played (outcome b c .book) (numbersTold (outcome b c .answer ∷ outcome b c .results))
-    → leb (length (outcome b c .results)) 6 ≡ true → after ≡ ws → Given b a ns ws p after
+    → told q ≡ playedWith (outcomeOf b c .book) (numbersTold (outcomeOf b c .answer ∷ outcomeOf b c .results))
+    → leb (length (outcomeOf b c .results)) 6 ≡ true → after ≡ ws → Given b a ns ws p after
 unfolding answerBy wordsBy
 numbers-given told {b} {a} {ns} {ws} {p} {after} {m} {name} {shape} {n} {c} line named asks made is valid same few kept =
     given-by (Line.Call name shape n) _ ws (call-line line named) (made ∙ ap told is ∙ same) kept
     (calling name shape n (record { call = c; manner = by-numbers }) asks)
     (subst (λ (x : Played). Valid (x .book)) (ap told is ∙ same) valid)
-    (numbers-tells (outcome b c .answer ∷ outcome b c .results) after (omega (arith, leb-true (length (outcome b c .results)) 6 few)))
+    (numbers-tells (outcomeOf b c .answer ∷ outcomeOf b c .results) after (omega (arith, leb-true (length (outcomeOf b c .results)) 6 few)))
     (ap length kept)
 
 -- a line that leaves the book and the words as they were
 pub shown-given : {b : Book} {a : Asked} {ns ws : List ℕ} {p : Played} {after : List ℕ} {l : Line} {answer : Answer}
-    → a .line ≡ l → Gives b a ns ws l (played b answer) ws → p ≡ played b answer → after ≡ ws → Valid b
+    → a .line ≡ l → Gives b a ns ws l (playedWith b answer) ws → p ≡ playedWith b answer → after ≡ ws → Valid b
     → Tellable answer after → Given b a ns ws p after
 shown-given line gives is kept valid tells = given-by _ _ _ line is kept gives valid tells (ap length kept)
 

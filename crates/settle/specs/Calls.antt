@@ -24,18 +24,18 @@ use Rattle.book.specs.Showing.{status, account, Looks}
 use Rattle.answers.specs.declared.Answer.{Answer}
 use Rattle.answers.specs.Told.{nothing, numbersTold, balanceTold, closedTold, wordsTold}
 use Rattle.journal.specs.Calls.{Call}
-use Rattle.journal.specs.Played.{Outcome, outcome}
+use Rattle.journal.specs.Played.{Outcome, outcomeOf}
 use Rattle.reading.specs.declared.Name.{Name}
 use Rattle.settle.specs.declared.calls.Asked.{Asked}
 use Rattle.settle.specs.declared.calls.Played.{Played}
 
 -- a book and an answer
-abbrev pub played : Book → Answer → Played
-played b answer = record { book = b; answer = answer }
+abbrev pub playedWith : Book → Answer → Played
+playedWith b answer = record { book = b; answer = answer }
 
 -- before the first line: the book that a refused Open returns, and no answer
 abbrev pub atFirst : Played
-atFirst = played (opened (day 0) [] 2 .book) nothing
+atFirst = playedWith (opened (day 0) [] 2 .book) nothing
 
 -- the list that stands among a call's numbers
 abbrev pub listIn : Asked → List ℕ → List ℕ
@@ -108,15 +108,15 @@ wordsBy by-payouts a o ws = leftWith a (o .words) ws
 
 -- the book and the answer after a call
 abbrev pub afterCall : Book → Asked → Asking → Played
-afterCall b a k = played (outcome b (k .call) .book) (answerBy (k .manner) a (outcome b (k .call)))
+afterCall b a k = playedWith (outcomeOf b (k .call) .book) (answerBy (k .manner) a (outcomeOf b (k .call)))
 
 -- the words after a call
 abbrev pub wordsAfter : Book → Asked → Asking → List ℕ → List ℕ
-wordsAfter b a k ws = wordsBy (k .manner) a (outcome b (k .call)) ws
+wordsAfter b a k ws = wordsBy (k .manner) a (outcomeOf b (k .call)) ws
 
 -- the book and the answer after an open
 abbrev pub afterOpen : Opened → Played
-afterOpen r = played (r .book) (numbersTold (r .answer ∷ []))
+afterOpen r = playedWith (r .book) (numbersTold (r .answer ∷ []))
 
 -- open: first day, terms, closed days
 abbrev pub opens : Asked → List ℕ → Played
@@ -124,7 +124,7 @@ opens a ns = afterOpen (opened (day (a .first)) (listIn a ns) (a .second))
 
 -- the book and the answer after an enter
 abbrev pub afterEnter : Entered → Played
-afterEnter r = played (r .book) (numbersTold (r .answer ∷ r .leg ∷ r .obligation ∷ []))
+afterEnter r = playedWith (r .book) (numbersTold (r .answer ∷ r .leg ∷ r .obligation ∷ []))
 
 -- enter: member, counterparty, side, quantity, amount, intended day
 abbrev pub enters : Book → Asked → Played
@@ -132,15 +132,15 @@ enters b a = afterEnter (enter b (a .first) (a .second) (a .third) (a .fourth) (
 
 -- the book and the answer after a call whose only result is its answer number
 abbrev pub afterDone : Done → Played
-afterDone r = played (r .book) (numbersTold (r .answer ∷ []))
+afterDone r = playedWith (r .book) (numbersTold (r .answer ∷ []))
 
 -- the book and the answer after a cancel
 abbrev pub afterCancel : Cancelled → Played
-afterCancel r = played (r .book) (numbersTold (r .answer ∷ r .moved ∷ []))
+afterCancel r = playedWith (r .book) (numbersTold (r .answer ∷ r .moved ∷ []))
 
 -- the book and the answer after a deliver
 abbrev pub afterDeliver : Delivered → Played
-afterDeliver r = played (r .book) (numbersTold (r .answer ∷ r .cash ∷ []))
+afterDeliver r = playedWith (r .book) (numbersTold (r .answer ∷ r .cash ∷ []))
 
 -- the answer to a status
 abbrev pub shownAs : Shown → Answer

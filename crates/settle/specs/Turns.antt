@@ -21,7 +21,7 @@ use Rattle.settle.specs.declared.flow.Course.{Course}
 use Rattle.settle.specs.declared.flow.Course.the-variants.{Going, Over, Failed}
 use Rattle.settle.specs.declared.flow.Flow.{Flow}
 use Rattle.settle.specs.Asked.{asks, noted}
-use Rattle.settle.specs.Calls.{played, atFirst, opens, Asking, askingOf, afterCall, wordsAfter}
+use Rattle.settle.specs.Calls.{playedWith, atFirst, opens, Asking, askingOf, afterCall, wordsAfter}
 use Rattle.settle.specs.Calls.{shows, balances, LooksAs, targets, wordsTargeted, editionTold}
 use Rattle.settle.specs.Flow.{atStart, FedOn, TakenOn, ToldOn}
 
@@ -40,15 +40,15 @@ pub data Gives (b : Book) (a : Asked) (ns ws : List ℕ) : Line → Played → L
   opening : (shape : Shape) (n : ℕ) → Gives b a ns ws (Call Name.Open shape n) (opens a ns) ws
   calling : (name : Name) (shape : Shape) (n : ℕ) (k : Asking) → askingOf name a ns ≡ some k →
       Gives b a ns ws (Call name shape n) (afterCall b a k) (wordsAfter b a k ws)
-  showing : (shape : Shape) (n : ℕ) → Gives b a ns ws (Call Name.Status shape n) (played b (shows b a)) ws
-  balancing : (shape : Shape) (n : ℕ) → Gives b a ns ws (Call Name.Account shape n) (played b (balances b a)) ws
+  showing : (shape : Shape) (n : ℕ) → Gives b a ns ws (Call Name.Status shape n) (playedWith b (shows b a)) ws
+  balancing : (shape : Shape) (n : ℕ) → Gives b a ns ws (Call Name.Account shape n) (playedWith b (balances b a)) ws
   looking : (shape : Shape) (n : ℕ) (answer : Answer) → LooksAs b a answer →
-      Gives b a ns ws (Call Name.Look shape n) (played b answer) ws
+      Gives b a ns ws (Call Name.Look shape n) (playedWith b answer) ws
   targeting : (shape : Shape) (n : ℕ) →
-      Gives b a ns ws (Call Name.Target shape n) (played b (targets a)) (wordsTargeted a ws)
-  ruling : (shape : Shape) (n : ℕ) → Gives b a ns ws (Call Name.Rules shape n) (played b editionTold) ws
-  passing : Gives b a ns ws Comment (played b nothing) ws
-  objecting : Gives b a ns ws NoCall (played b noCall) ws
+      Gives b a ns ws (Call Name.Target shape n) (playedWith b (targets a)) (wordsTargeted a ws)
+  ruling : (shape : Shape) (n : ℕ) → Gives b a ns ws (Call Name.Rules shape n) (playedWith b editionTold) ws
+  passing : Gives b a ns ws Comment (playedWith b nothing) ws
+  objecting : Gives b a ns ws NoCall (playedWith b noCall) ws
 
 -- what the program holds between two turns: the book, where the input and the output stand, and the buffers
 pub record Held : Type 0 where
@@ -72,7 +72,7 @@ pub record Turn (h after : Held) : Type 0 where
   pub asking : asked ≡ asks taken (after .line) (h .numbers)
   pub noting : after .numbers ≡ noted taken (after .line) (h .numbers)
   pub answer : Answer
-  pub gives : Gives (h .book) asked (after .numbers) (h .words) (asked .line) (played (after .book) answer) (after .words)
+  pub gives : Gives (h .book) asked (after .numbers) (h .words) (asked .line) (playedWith (after .book) answer) (after .words)
   pub tells : ToldOn fed taken (answerText answer (taken .feed .ended) (after .words)) (h .out) (after .out) (after .flow)
 
 -- what the program holds before the first turn, with these contents of the buffers

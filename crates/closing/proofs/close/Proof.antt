@@ -12,7 +12,7 @@ use Rattle.netting.specs.Accounts.{memberCount, transferred}
 use Rattle.ledger.specs.declared.Obligation.{Obligation}
 use Rattle.ledger.specs.Obligations.{noObligation, Sound}
 use Rattle.ledger.specs.Ledger.{obligationAt}
-use Rattle.offers.specs.Held.{listed}
+use Rattle.offers.specs.Held.{listedOffers}
 use Rattle.closing.specs.Close.{accountsUpTo}
 use Rattle.closing.proofs.Parts.{due-stages}
 use Rattle.closing.proofs.Together.{Done, rows-behind, done-none, done-due, done-idle, done-length, done-all, done-room, done-closes, lines-most}
@@ -22,7 +22,7 @@ use Rattle.closing.proofs.close.Tie as tie
 
 abbrev Inv-loop : tie.InvT-loop
 Inv-loop l day lines₀ offers n rows₀ accounts₀ count₀ i₀ lines rows accounts count i =
-    (i ≤ n) × (Done day (listed offers) rows₀ i rows count lines₀ lines) × (accounts ≡ accountsUpTo day rows₀ accounts₀ i)
+    (i ≤ n) × (Done day (listedOffers offers) rows₀ i rows count lines₀ lines) × (accounts ≡ accountsUpTo day rows₀ accounts₀ i)
 
 abbrev μ-loop : tie.MeasureT-loop
 μ-loop l day lines₀ offers n rows₀ accounts₀ count₀ i₀ lines rows accounts count i = n - i
@@ -35,7 +35,7 @@ start c = c .before .before .before .before .before
 same : (c : tie.At-loop Inv-loop μ-loop) → getD (c .loop .rows) (c .loop .i) noObligation ≡ obligationAt (start c .args .l) (c .loop .i)
 same c =
     ap (λ (os : List Obligation). getD os (c .loop .i) noObligation) (c .loop .inv .1 .rows)
-    ∙ rows-behind (start c .args .day) (start c .args .l .obligations) (listed (start c .args .l .offers)) (c .loop .i) (c .loop .i) (omega arith)
+    ∙ rows-behind (start c .args .day) (start c .args .l .obligations) (listedOffers (start c .args .l .offers)) (c .loop .i) (c .loop .i) (omega arith)
 
 -- there is an account of each member
 sized : (c : tie.At-loop Inv-loop μ-loop) → length (c .loop .accounts) ≡ memberCount
@@ -98,7 +98,7 @@ close-due-requires c κs =
     let more = c .before .before .before .before .before .before .before .before .before .before .before .loop-test .taken in
     let due = sym (c .before .before .before .before .before .before .before .before .before .is-due .ensures) ∙ c .before .before .before .before .before .before .before .before .if1 .taken in (
       (rw (same turn) (done-closes (s .args .day) (s .args .l) _ _ (s .pre) more), c .before .before .before .before .before .before .before .penalty-on .ensures),
-      rw (← due-stages (s .args .day) (listed (s .args .l .offers)) _ (getD (turn .loop .rows) (turn .loop .i) noObligation) due, same turn) (done-room (s .args .day) (s .args .l) _ _ _ _ _ (s .pre) more (turn .loop .inv .1)),
+      rw (← due-stages (s .args .day) (listedOffers (s .args .l .offers)) _ (getD (turn .loop .rows) (turn .loop .i) noObligation) due, same turn) (done-room (s .args .day) (s .args .l) _ _ _ _ _ (s .pre) more (turn .loop .inv .1)),
     )
 
 mul-rows : tie.Need-mul-rows Inv-loop μ-loop
@@ -148,8 +148,8 @@ returns c =
     let a = start turn .args in
     let h = start turn .pre in
     let all = le-antisymm (turn .loop .inv .0) (c .before .loop-test .left) in
-    let s : Done (a .day) (listed (a .l .offers)) (a .l .obligations) (a .l .count) (turn .loop .rows) (turn .loop .count) (a .lines .now) (turn .loop .lines) =
-    subst (λ (k : ℕ). Done (a .day) (listed (a .l .offers)) (a .l .obligations) k (turn .loop .rows) (turn .loop .count) (a .lines .now) (turn .loop .lines))
+    let s : Done (a .day) (listedOffers (a .l .offers)) (a .l .obligations) (a .l .count) (turn .loop .rows) (turn .loop .count) (a .lines .now) (turn .loop .lines) =
+    subst (λ (k : ℕ). Done (a .day) (listedOffers (a .l .offers)) (a .l .obligations) k (turn .loop .rows) (turn .loop .count) (a .lines .now) (turn .loop .lines))
     all (turn .loop .inv .1) in
     let rows = done-all _ _ _ _ _ _ _ _ s
     (omega (arith, lines-most (a .day) (a .l .obligations) (a .l .offers) (h .end .setup .terms) (h .valid .offers .few) (a .l .count) (h .valid .few), h .long)) in

@@ -2,7 +2,7 @@
 use mathlib.Core.Path.{_≡_, sym, ap}
 use borrow.Author.Needs.{needs}
 use Rattle.calendar.specs.declared.ClearingDays.{ClearingDays}
-use Rattle.offers.specs.Held.{listed}
+use Rattle.offers.specs.Held.{listedOffers}
 use Rattle.ledger.specs.Obligations.{ageBy, Sound}
 use Rattle.closing.specs.Lines.{Room}
 use Rattle.closing.specs.Close.{course, stages}
@@ -17,16 +17,16 @@ start c = c .before .before .before .before .before .before
 
 -- the course that the function follows is that of the rules
 followed : (c : tie.After-keep-price) →
-    course (start c .args .cents) (c .before .measures-at .result) (start c .args .day .price) (listed (start c .args .offers)) (start c .args .number) (c .keep-price .result) ≡
-    stages (start c .args .day) (ageBy (start c .args .day .setup) (start c .args .day .today) (start c .args .o)) (listed (start c .args .offers)) (start c .args .number) (start c .args .o)
+    course (start c .args .cents) (c .before .measures-at .result) (start c .args .day .price) (listedOffers (start c .args .offers)) (start c .args .number) (c .keep-price .result) ≡
+    stages (start c .args .day) (ageBy (start c .args .day .setup) (start c .args .day .today) (start c .args .o)) (listedOffers (start c .args .offers)) (start c .args .number) (start c .args .o)
 followed c =
     let a = start c .args in
-    course-is (a .day) (listed (a .offers)) (a .number) (a .o) _ _ _ _ (start c .pre .0 .1) (ap (λ (x : ClearingDays). x .0) (c .before .before .age-at .ensures))
+    course-is (a .day) (listedOffers (a .offers)) (a .number) (a .o) _ _ _ _ (start c .pre .0 .1) (ap (λ (x : ClearingDays). x .0) (c .before .before .age-at .ensures))
     (c .before .measures-at .ensures) (c .keep-price .ensures)
 
 -- it has room for its lines
 room : (c : tie.After-keep-price) → Room (start c .args .count) (start c .args .lines .now)
-    (course (start c .args .cents) (c .before .measures-at .result) (start c .args .day .price) (listed (start c .args .offers)) (start c .args .number) (c .keep-price .result))
+    (course (start c .args .cents) (c .before .measures-at .result) (start c .args .day .price) (listedOffers (start c .args .offers)) (start c .args .number) (c .keep-price .result))
 room c = rw (followed c) (start c .pre .1)
 
 -- the obligation with its price stored is sound

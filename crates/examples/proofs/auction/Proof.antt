@@ -6,7 +6,7 @@ use native.Mathlib.Omega.{arith}
 use borrow.Author.Needs.{needs}
 use Rattle.examples.proofs.Same.{none-differs}
 use Rattle.offers.specs.BuyIn.{offersFor, withGiven, givenBy, given, nothingGiven, boughtWith}
-use Rattle.offers.specs.Held.{listed, withOffer}
+use Rattle.offers.specs.Held.{listedOffers, withOffer}
 use Rattle.offers.specs.Rank.{overtakes, insertedBy}
 use Rattle.offers.specs.declared.Given.{Given}
 use Rattle.offers.specs.declared.BuyIn.{BuyIn}
@@ -19,7 +19,7 @@ same-count e = ap (λ (o : Offers). o .count) e
 
 -- what offers give to ten units of obligation 0
 abbrev gives : Offers → BuyIn
-gives o = boughtWith (given 0 10 (listed o))
+gives o = boughtWith (given 0 10 (listedOffers o))
 
 -- what is given in a place
 abbrev rowAt : ℕ → BuyIn → Given

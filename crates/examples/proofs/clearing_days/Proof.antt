@@ -5,7 +5,7 @@ use native.Mathlib.Omega.{arith}
 use borrow.Author.Needs.{needs}
 use Rattle.examples.proofs.Settled.{thirtieth, thirty-fifth, thirtieth-after-closed}
 use Rattle.examples.specs.Table.{dayOrNone}
-use Rattle.calendar.specs.Closed.{day, closedDays, listed}
+use Rattle.calendar.specs.Closed.{day, closedDays, listedDays}
 use Rattle.calendar.specs.declared.ClosedDays.{ClosedDays}
 use Rattle.calendar.specs.Days.{clearingDays, nthAfter}
 use Rattle.examples.proofs.Same.{none-differs}
@@ -14,22 +14,22 @@ use Rattle.examples.proofs.clearing_days.Tie as tie
 
 -- the n-th clearing day after day 2
 abbrev after : ℕ → ClosedDays → ℕ
-after n d = dayOrNone (nthAfter (listed d) (day 2) (clearingDays n))
+after n d = dayOrNone (nthAfter (listedDays d) (day 2) (clearingDays n))
 
 array-share-prefix-list : tie.Need-array-share-prefix-list
 array-share-prefix-list c = search needs
 
-slice-aggregate-listed : tie.Need-slice-aggregate-listed
-slice-aggregate-listed c = search needs
+slice-aggregate-of : tie.Need-slice-aggregate-of
+slice-aggregate-of c = search needs
 
-listed-requires : tie.Need-listed-requires
-listed-requires c κs = search needs
+of-requires : tie.Need-of-requires
+of-requires c κs = search needs
 
-slice-aggregate-listed-2 : tie.Need-slice-aggregate-listed-2
-slice-aggregate-listed-2 c = search needs
+slice-aggregate-of-2 : tie.Need-slice-aggregate-of-2
+slice-aggregate-of-2 c = search needs
 
-listed-requires-2 : tie.Need-listed-requires-2
-listed-requires-2 c κs = search needs
+of-requires-2 : tie.Need-of-requires-2
+of-requires-2 c κs = search needs
 
 nth-after-2-requires : tie.Need-nth-after-2-requires
 nth-after-2-requires c κs = search needs
@@ -56,8 +56,8 @@ add-result-2 : tie.Need-add-result-2
 add-result-2 c = search needs
 
 returns : tie.Need-returns
-unfolding closedDays listed
-returns c = let open-days = c .before .before .before .before .before .before .before .before .listed .ensures .0 in let closed = c .before .before .before .before .before .before .listed2 .ensures .0 in
+unfolding closedDays listedDays
+returns c = let open-days = c .before .before .before .before .before .before .before .before .of .ensures .0 in let closed = c .before .before .before .before .before .before .of2 .ensures .0 in
     omega (
       arith,
       none-differs (c .before .before .before .before .before .nth-after-2 .ensures ∙ ap (after 30) open-days ∙ ap dayOrNone thirtieth) (c .before .before .before .before .compared .ensures .0),
@@ -70,10 +70,10 @@ clearing-days-spec =
     tie.close
     (tie.spec
     array-share-prefix-list
-    slice-aggregate-listed
-    listed-requires
-    slice-aggregate-listed-2
-    listed-requires-2
+    slice-aggregate-of
+    of-requires
+    slice-aggregate-of-2
+    of-requires-2
     nth-after-2-requires
     compared-requires
     nth-after-2-requires-2

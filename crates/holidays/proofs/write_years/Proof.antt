@@ -8,7 +8,7 @@ use lib.ListN.{length}
 use lib.Seq.{sets, length-sets}
 use borrow.Author.Needs.{needs}
 use Rattle.basics.proofs.Stores.{sets-ahead}
-use Rattle.holidays.specs.Target.{closedIn, closedFrom}
+use Rattle.holidays.specs.Target.{closedInYear, closedFrom}
 use Rattle.holidays.proofs.Rising.{closed-length, stored-more}
 use Rattle.holidays.proofs.write_years.Statement.{statement}
 use Rattle.holidays.proofs.write_years.Tie as tie
@@ -58,7 +58,7 @@ loop-again c =
     let s = start o in (
       omega (arith, turn .loop-test .taken),
       c .before .before .put-year .ensures
-          ∙ ap (λ (l : List ℕ). sets l (6 * o .loop .i) (closedIn (s .args .first + o .loop .i))) (o .loop .inv .1)
+          ∙ ap (λ (l : List ℕ). sets l (6 * o .loop .i) (closedInYear (s .args .first + o .loop .i))) (o .loop .inv .1)
           ∙ stored-more (s .args .days .now) (s .args .first) (o .loop .i),
     )
 

@@ -16,7 +16,7 @@ use Rattle.answers.specs.Told.{mostShown, closedTold, wordsTold}
 use Rattle.answers.proofs.Tells.{nothing-tells, no-call-tells, numbers-tells, balance-tells, closed-tells, words-tells}
 use Rattle.settle.specs.declared.flow.Flow.{Flow}
 use Rattle.settle.specs.declared.calls.Played.{Played}
-use Rattle.settle.specs.Calls.{played, lentTo, afterDone, afterCancel, afterDeliver, afterCall, closeAsked, againAsked, monthAsked, shownAs, balanceAs, answerBy}
+use Rattle.settle.specs.Calls.{playedWith, lentTo, afterDone, afterCancel, afterDeliver, afterCall, closeAsked, againAsked, monthAsked, shownAs, balanceAs, answerBy}
 use Rattle.settle.specs.Turns.{Held, begins}
 use Rattle.settle.specs.Turns.Gives.{opening, calling, showing, balancing, looking, targeting, ruling, passing, objecting}
 use Rattle.settle.proofs.Turning.{Stands, standing, stopped, Given, given-by, call-line, numbers-given, shown-given, turned, fewer, took-within}
@@ -30,13 +30,13 @@ held book flow part line numbers words out =
     record { book = book; flow = flow; part = part; line = line; numbers = numbers; words = words; out = out }
 
 abbrev Inv-loop : tie.InvT-loop
-Inv-loop part₀ line₀ numbers₀ words₀ out₀ turns₀ flow₀ played₀ part line numbers words out turns flow played =
-    (Stands (begins part₀ line₀ numbers₀ words₀ out₀) turns (held (played .book) flow part line numbers words out))
+Inv-loop part₀ line₀ numbers₀ words₀ out₀ turns₀ flow₀ played₀ part line numbers words out turns flow playedWith =
+    (Stands (begins part₀ line₀ numbers₀ words₀ out₀) turns (held (playedWith .book) flow part line numbers words out))
     × (length part ≡ length part₀) × (length line ≡ length line₀) × (length numbers ≡ length numbers₀)
     × (length words ≡ length words₀) × (length out ≡ length out₀)
 
 abbrev μ-loop : tie.MeasureT-loop
-μ-loop part₀ line₀ numbers₀ words₀ out₀ turns₀ flow₀ played₀ part line numbers words out turns flow played = turns
+μ-loop part₀ line₀ numbers₀ words₀ out₀ turns₀ flow₀ played₀ part line numbers words out turns flow playedWith = turns
 
 -- the places of a turn, once it is known what the line asks: where the line was asked, taken and fed, where the loop's
 -- test was passed, and where the turn began
@@ -122,13 +122,13 @@ given c =
     (λ y. cases y (λ x. given-by _ _ _ (call-line (x .1 .given .1) (x .4 .given .1)) (x .10 ∙ x .6 .ensures .0) (x .9 ∙ x .6 .ensures .1 .0) (calling _ _ _ _ refl) (rw (x .6 .ensures .0) at (x .6 .ensures .1 .1)) (close-tells s (ap length (x .9) ∙ x .6 .kept .1 .1 .0)) (ap length (x .9) ∙ x .6 .kept .1 .1 .0))
     (λ y. cases y (λ x. given-by _ _ _ (call-line (x .1 .given .1) (x .4 .given .1)) (x .10 ∙ x .6 .ensures .0) (x .9 ∙ x .6 .ensures .1 .0) (calling _ _ _ _ refl) (rw (x .6 .ensures .0) at (x .6 .ensures .1 .1)) (again-tells s (ap length (x .9) ∙ x .6 .kept .1 .1 .0)) (ap length (x .9) ∙ x .6 .kept .1 .1 .0))
     (λ y. cases y (λ x. given-by _ _ _ (call-line (x .1 .given .1) (x .4 .given .1)) (x .11 ∙ x .7 .ensures .0) (x .10 ∙ x .7 .ensures .1 .0) (calling _ _ _ _ refl) (rw (x .7 .ensures .0) at (x .7 .ensures .1 .1)) (month-tells s (ap length (x .10) ∙ x .7 .kept .1 .1 .1 .0)) (ap length (x .10) ∙ x .7 .kept .1 .1 .1 .0))
-    (λ y. cases y (λ x. shown-given (call-line (x .1 .given .1) (x .4 .given .1)) (showing _ _) (x .8 ∙ ap (played (book s)) (x .6 .ensures ∙ ap shownAs (x .5 .ensures .0))) (x .7) (valid s) (numbers-tells _ _ (omega arith)))
-    (λ y. cases y (λ x. shown-given (call-line (x .1 .given .1) (x .4 .given .1)) (balancing _ _) (x .8 ∙ ap (played (book s)) (x .6 .ensures ∙ ap balanceAs (x .5 .ensures .0))) (x .7) (valid s) (balance-tells _ _ _))
-    (λ y. cases y (λ x. shown-given (call-line (x .1 .given .1) (x .4 .given .1)) (looking _ _ _ (record { looked = x .5 .result; allowed = x .5 .ensures .0; told = refl })) (x .8 ∙ ap (played (book s)) (x .6 .ensures)) (x .7) (valid s) (numbers-tells _ _ (omega arith)))
-    (λ y. cases y (λ x. given-by _ _ _ (call-line (x .1 .given .1) (x .4 .given .1)) (x .10 ∙ ap (played (book s)) (x .6 .ensures .0)) (x .9 ∙ x .6 .ensures .1) (targeting _ _) (valid s) (words-tell s _ (omega arith) (ap length (x .9) ∙ x .6 .kept .1 .0)) (ap length (x .9) ∙ x .6 .kept .1 .0))
-    (λ y. cases y (λ x. shown-given (call-line (x .1 .given .1) (x .4 .given .1)) (ruling _ _) (x .7 ∙ ap (played (book s)) (x .5 .ensures)) (x .6) (valid s) (numbers-tells _ _ (omega arith)))
-    (λ y. cases y (λ x. shown-given (x .1 .given .1) passing (x .4 ∙ ap (played (book s)) (x .2 .ensures)) (x .3) (valid s) (nothing-tells _))
-    (λ x. shown-given (x .1 .given .1) objecting (x .4 ∙ ap (played (book s)) (x .2 .ensures)) (x .3) (valid s) (no-call-tells _))))))))))))))))
+    (λ y. cases y (λ x. shown-given (call-line (x .1 .given .1) (x .4 .given .1)) (showing _ _) (x .8 ∙ ap (playedWith (book s)) (x .6 .ensures ∙ ap shownAs (x .5 .ensures .0))) (x .7) (valid s) (numbers-tells _ _ (omega arith)))
+    (λ y. cases y (λ x. shown-given (call-line (x .1 .given .1) (x .4 .given .1)) (balancing _ _) (x .8 ∙ ap (playedWith (book s)) (x .6 .ensures ∙ ap balanceAs (x .5 .ensures .0))) (x .7) (valid s) (balance-tells _ _ _))
+    (λ y. cases y (λ x. shown-given (call-line (x .1 .given .1) (x .4 .given .1)) (looking _ _ _ (record { looked = x .5 .result; allowed = x .5 .ensures .0; told = refl })) (x .8 ∙ ap (playedWith (book s)) (x .6 .ensures)) (x .7) (valid s) (numbers-tells _ _ (omega arith)))
+    (λ y. cases y (λ x. given-by _ _ _ (call-line (x .1 .given .1) (x .4 .given .1)) (x .10 ∙ ap (playedWith (book s)) (x .6 .ensures .0)) (x .9 ∙ x .6 .ensures .1) (targeting _ _) (valid s) (words-tell s _ (omega arith) (ap length (x .9) ∙ x .6 .kept .1 .0)) (ap length (x .9) ∙ x .6 .kept .1 .0))
+    (λ y. cases y (λ x. shown-given (call-line (x .1 .given .1) (x .4 .given .1)) (ruling _ _) (x .7 ∙ ap (playedWith (book s)) (x .5 .ensures)) (x .6) (valid s) (numbers-tells _ _ (omega arith)))
+    (λ y. cases y (λ x. shown-given (x .1 .given .1) passing (x .4 ∙ ap (playedWith (book s)) (x .2 .ensures)) (x .3) (valid s) (nothing-tells _))
+    (λ x. shown-given (x .1 .given .1) objecting (x .4 ∙ ap (playedWith (book s)) (x .2 .ensures)) (x .3) (valid s) (no-call-tells _))))))))))))))))
 
 loop-holds : tie.Need-loop-holds Inv-loop μ-loop
 loop-holds c =

@@ -32,8 +32,8 @@ returns-2 : tie.Need-returns-2
 unfolding opened openRefusals
 returns-2 c = (ap (opened-with 4) (c .refused2 .ensures) ∙ refused-by 4 _ _ openRefused (pass 1 _ (le-ltb _ _ (c .before .before .before .if1 .left)) ∙ stop 4 _ (sym (c .before .before .refuses-closed .ensures .0) ∙ c .before .if2 .taken)) refl, (rw (c .refused2 .ensures) refused-valid, refl))
 
-listed-requires : tie.Need-listed-requires
-listed-requires c κs = closed-short _ (sym (c .before .refuses-closed .ensures .0) ∙ c .if2 .left)
+of-requires : tie.Need-of-requires
+of-requires c κs = closed-short _ (sym (c .before .refuses-closed .ensures .0) ∙ c .if2 .left)
 
 is-bad-first-requires : tie.Need-is-bad-first-requires
 is-bad-first-requires c κs = search needs
@@ -43,14 +43,14 @@ refused-requires-3 c κs = search needs
 
 returns-3 : tie.Need-returns-3
 unfolding opened openRefusals
-returns-3 c = (ap (opened-with 11) (c .refused3 .ensures) ∙ refused-by 11 _ _ openRefused (pass 1 _ (le-ltb _ _ (c .before .before .before .before .before .before .if1 .left)) ∙ pass 4 _ (sym (c .before .before .before .before .before .refuses-closed .ensures .0) ∙ c .before .before .before .before .if2 .left) ∙ stop 11 _ (rw (c .before .before .before .listed .ensures .0) at (sym (c .before .before .is-bad-first .ensures) ∙ c .before .if3 .taken))) refl, (rw (c .refused3 .ensures) refused-valid, refl))
+returns-3 c = (ap (opened-with 11) (c .refused3 .ensures) ∙ refused-by 11 _ _ openRefused (pass 1 _ (le-ltb _ _ (c .before .before .before .before .before .before .if1 .left)) ∙ pass 4 _ (sym (c .before .before .before .before .before .refuses-closed .ensures .0) ∙ c .before .before .before .before .if2 .left) ∙ stop 11 _ (rw (c .before .before .before .of .ensures .0) at (sym (c .before .before .is-bad-first .ensures) ∙ c .before .if3 .taken))) refl, (rw (c .refused3 .ensures) refused-valid, refl))
 
 fresh-requires : tie.Need-fresh-requires
 fresh-requires c κs = search needs
 
 returns-4 : tie.Need-returns-4
 unfolding opened openRefusals
-returns-4 c = let g = rw (c .before .before .before .listed .ensures .0) at (sym (c .before .before .is-bad-first .ensures) ∙ c .before .if3 .left) in let h = first-good _ _ g in let q = c .fresh .ensures ∙ ap (λ (k : ClosedDays). freshBook (c .before .before .before .before .before .before .before .before .args .first) k (c .before .before .before .before .before .before .before .before .args .terms)) (c .before .before .before .listed .ensures .0) in (
+returns-4 c = let g = rw (c .before .before .before .of .ensures .0) at (sym (c .before .before .is-bad-first .ensures) ∙ c .before .if3 .left) in let h = first-good _ _ g in let q = c .fresh .ensures ∙ ap (λ (k : ClosedDays). freshBook (c .before .before .before .before .before .before .before .before .args .first) k (c .before .before .before .before .before .before .before .before .args .terms)) (c .before .before .before .of .ensures .0) in (
   ap (opened-with 0) q ∙ done-by _ _ openRefused (pass 1 _ (le-ltb _ _ (c .before .before .before .before .before .before .if1 .left)) ∙ pass 4 _ (sym (c .before .before .before .before .before .refuses-closed .ensures .0) ∙ c .before .before .before .before .if2 .left) ∙ pass 11 _ g ∙ all-passed),
   (rw q (fresh-valid _ _ (c .before .before .before .before .before .before .before .before .args .terms) (sym (c .before .before .before .before .before .refuses-closed .ensures .0) ∙ c .before .before .before .before .if2 .left) (h .0) (h .1)), refl),
 )
@@ -64,7 +64,7 @@ open-spec =
     refuses-closed-requires
     refused-requires-2
     returns-2
-    listed-requires
+    of-requires
     is-bad-first-requires
     refused-requires-3
     returns-3

@@ -7,18 +7,18 @@ use Rattle.calendar.specs.declared.ClosedDays.{ClosedDays}
 use Rattle.book.proofs.Book.refused.Statement.{statement}
 use Rattle.book.proofs.Book.refused.Tie as tie
 
-slice-aggregate-listed : tie.Need-slice-aggregate-listed
-slice-aggregate-listed c = search needs
+slice-aggregate-of : tie.Need-slice-aggregate-of
+slice-aggregate-of c = search needs
 
-listed-requires : tie.Need-listed-requires
-listed-requires c κs = search needs
+of-requires : tie.Need-of-requires
+of-requires c κs = search needs
 
 fresh-requires : tie.Need-fresh-requires
 fresh-requires c κs = search needs
 
 returns : tie.Need-returns
 unfolding refusedBook
-returns c = c .fresh .ensures ∙ ap (λ (k : ClosedDays). freshBook (day 2) k 0) (c .before .listed .ensures .0)
+returns c = c .fresh .ensures ∙ ap (λ (k : ClosedDays). freshBook (day 2) k 0) (c .before .of .ensures .0)
 
 pub refused-spec : {M : Type 1} → statement M
-refused-spec = tie.close (tie.spec slice-aggregate-listed listed-requires fresh-requires returns)
+refused-spec = tie.close (tie.spec slice-aggregate-of of-requires fresh-requires returns)

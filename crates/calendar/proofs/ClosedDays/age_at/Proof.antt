@@ -2,7 +2,7 @@
 use native.Mathlib.Omega.{arith}
 use mathlib.Core.Path.{sym, ap}
 use borrow.Author.Needs.{needs}
-use Rattle.calendar.specs.Closed.{listed}
+use Rattle.calendar.specs.Closed.{listedDays}
 use Rattle.calendar.specs.Days.{clearingDays}
 use Rattle.calendar.proofs.Ages.{age-early}
 use Rattle.calendar.proofs.Counting.{age-weekdays}
@@ -10,7 +10,7 @@ use Rattle.calendar.proofs.ClosedDays.age_at.Statement.{statement}
 use Rattle.calendar.proofs.ClosedDays.age_at.Tie as tie
 
 returns : tie.Need-returns
-returns c = let a = c .before .before .before .args in sym (ap clearingDays (age-early (listed (a .self)) (a .due) (a .today) (c .if1 .taken)))
+returns c = let a = c .before .before .before .args in sym (ap clearingDays (age-early (listedDays (a .self)) (a .due) (a .today) (c .if1 .taken)))
 
 weekdays-to-requires : tie.Need-weekdays-to-requires
 weekdays-to-requires c κs = search needs

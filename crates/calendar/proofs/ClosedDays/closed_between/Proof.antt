@@ -7,7 +7,7 @@ use lib.ListN.{length, drop}
 use borrow.Author.Needs.{needs}
 use borrow.Author.Tests.{ltb-true, ltb-false}
 use Rattle.basics.proofs.Cases.{length-mapped}
-use Rattle.calendar.specs.Closed.{mostClosed, listed}
+use Rattle.calendar.specs.Closed.{mostClosed, listedDays}
 use Rattle.calendar.specs.Days.{closedBetween}
 use Rattle.calendar.proofs.Closed.{held, listed-more, listed-end}
 use Rattle.calendar.proofs.ClosedDays.closed_between.Statement.{statement}
@@ -16,7 +16,7 @@ use Rattle.calendar.proofs.ClosedDays.closed_between.Tie as tie
 abbrev Inv-loop : tie.InvT-loop
 Inv-loop after to days count n₀ i₀ n i =
     (i ≤ mostClosed) × (n ≤ i)
-    × (n + closedBetween (drop i (listed (held days count))) after to ≡ closedBetween (listed (held days count)) after to)
+    × (n + closedBetween (drop i (listedDays (held days count))) after to ≡ closedBetween (listedDays (held days count)) after to)
 
 abbrev μ-loop : tie.MeasureT-loop
 μ-loop after to days count n₀ i₀ n i = mostClosed - i

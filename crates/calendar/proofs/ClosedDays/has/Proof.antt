@@ -7,7 +7,7 @@ use lib.ListN.{length, getD, drop}
 use borrow.Author.Needs.{needs}
 use borrow.Author.Tests.{ltb-true, ltb-false, eq-eqb, ne-eqb}
 use Rattle.basics.proofs.Cases.{length-mapped}
-use Rattle.calendar.specs.Closed.{day, mostClosed, among, listed}
+use Rattle.calendar.specs.Closed.{day, mostClosed, among, listedDays}
 use Rattle.calendar.specs.declared.Day.{Day}
 use Rattle.calendar.proofs.Closed.{held, listed-more, listed-end}
 use Rattle.calendar.proofs.ClosedDays.has.Statement.{statement}
@@ -15,14 +15,14 @@ use Rattle.calendar.proofs.ClosedDays.has.Tie as tie
 
 abbrev Inv-loop : tie.InvT-loop
 Inv-loop day days count i₀ i =
-    (i ≤ mostClosed) × (among (drop i (listed (held days count))) day ≡ among (listed (held days count)) day)
+    (i ≤ mostClosed) × (among (drop i (listedDays (held days count))) day ≡ among (listedDays (held days count)) day)
 
 abbrev μ-loop : tie.MeasureT-loop
 μ-loop day days count i₀ i = mostClosed - i
 
 -- the closed days from this turn on
 abbrev left : tie.At-loop Inv-loop μ-loop → List Day
-left c = drop (c .loop .i) (listed (c .before .before .args .self))
+left c = drop (c .loop .i) (listedDays (c .before .before .args .self))
 
 sized : (c : tie.At-loop Inv-loop μ-loop) → length (c .before .before .args .self .days) ≡ mostClosed
 sized c = search (length-mapped, needs)
@@ -30,7 +30,7 @@ sized c = search (length-mapped, needs)
 more : (c : tie.Then1 Inv-loop μ-loop) →
     let o = c .before .before in
     let s = o .before .before .args .self in
-    left o ≡ getD (s .days) (o .loop .i) (day 0) ∷ drop (o .loop .i + 1) (listed s)
+    left o ≡ getD (s .days) (o .loop .i) (day 0) ∷ drop (o .loop .i + 1) (listedDays s)
 more c =
     let o = c .before .before in
     listed-more (o .before .before .args .self) (sized o) (o .loop .i) (c .before .loop-test .taken)

@@ -2,14 +2,14 @@
 use Prim.Native.Nat.{_-_}
 use mathlib.Core.Path.{_≡_, refl, sym, _∙_}
 use borrow.Author.Needs.{needs}
-use Rattle.calendar.specs.Closed.{day, listed}
+use Rattle.calendar.specs.Closed.{day, listedDays}
 use Rattle.calendar.specs.Days.{nextAfter}
 use Rattle.calendar.proofs.ClosedDays.next_after.Statement.{statement}
 use Rattle.calendar.proofs.Walks.{next-more, next-none}
 use Rattle.calendar.proofs.ClosedDays.next_after.Tie as tie
 
 abbrev Inv-loop : tie.InvT-loop
-Inv-loop self d₀ d = nextAfter (listed self) (day d₀) ≡ nextAfter (listed self) (day d)
+Inv-loop self d₀ d = nextAfter (listedDays self) (day d₀) ≡ nextAfter (listedDays self) (day d)
 
 abbrev μ-loop : tie.MeasureT-loop
 μ-loop self d₀ d = 65535 - d

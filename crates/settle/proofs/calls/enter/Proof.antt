@@ -1,14 +1,14 @@
 -- `enter` meets its contract.
 use mathlib.Core.Path.{ap, _∙_}
 use borrow.Author.Needs.{needs}
-use Rattle.settle.specs.Calls.{played, afterEnter}
+use Rattle.settle.specs.Calls.{playedWith, afterEnter}
 use Rattle.settle.proofs.calls.enter.Statement.{statement}
 use Rattle.settle.proofs.calls.enter.Tie as tie
 
 returns : tie.Need-returns
 returns c =
     let entered = c .before .before .before .enter in
-    (ap (played (entered .result .book)) (c .numbers .ensures) ∙ ap afterEnter (entered .ensures .0), entered .ensures .1)
+    (ap (playedWith (entered .result .book)) (c .numbers .ensures) ∙ ap afterEnter (entered .ensures .0), entered .ensures .1)
 
 pub enter-spec : {M : Type 1} → statement M
 enter-spec =

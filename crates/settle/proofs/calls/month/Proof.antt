@@ -5,7 +5,7 @@ use mathlib.Core.List.{List, [], _∷_}
 use mathlib.Core.Path.{sym, ap}
 use borrow.Author.Needs.{needs}
 use Rattle.settle.proofs.Lending.{filled-length, as-lent}
-use Rattle.settle.specs.Calls.{played, listIn, answerBy, wordsBy}
+use Rattle.settle.specs.Calls.{playedWith, listIn, answerBy, wordsBy}
 use Rattle.settle.specs.declared.calls.Played.{Played}
 use Rattle.book.specs.Month.{month, monthWords}
 use Rattle.book.specs.declared.Done.{Done}
@@ -56,10 +56,10 @@ returns c =
     let done = called .month in
     let f = filled .fill .ensures in
     let given = listIn a (s .args .n .now) in
-    let told : Done → Played = λ (r : Done). played (r .book) (wordsTold (r .answer ∷ []) (a .lent)) in
+    let told : Done → Played = λ (r : Done). playedWith (r .book) (wordsTold (r .answer ∷ []) (a .lent)) in
     let is =
     as-lent (a .lent) (a .fill) (s .args .words .now) _ f (λ (ws : List ℕ). month (s .args .book) given (length ws)) (monthWords (s .args .book) given) told
-    (done .result) _ (done .ensures .0) (done .ensures .1 .0) (ap (played (done .result .book)) (c .with-words .ensures)) in
+    (done .result) _ (done .ensures .0) (done .ensures .1 .0) (ap (playedWith (done .result .book)) (c .with-words .ensures)) in
     (is .0, (is .1, done .ensures .1 .1 .0))
 
 pub month-spec : {M : Type 1} → statement M

@@ -1,4 +1,4 @@
--- `listed` meets its contract.
+-- `of` meets its contract.
 use Prim.Native.Nat.{_-_, _≤_}
 use native.Mathlib.Omega.{arith}
 use mathlib.Core.List.{map}
@@ -8,8 +8,8 @@ use borrow.Author.Needs.{needs}
 use Rattle.basics.specs.Lists.{padded}
 use Rattle.calendar.specs.Closed.{day, mostClosed}
 use Rattle.calendar.proofs.Closed.{stored-more, stored-all}
-use Rattle.calendar.proofs.ClosedDays.listed.Statement.{statement}
-use Rattle.calendar.proofs.ClosedDays.listed.Tie as tie
+use Rattle.calendar.proofs.ClosedDays.of.Statement.{statement}
+use Rattle.calendar.proofs.ClosedDays.of.Tie as tie
 
 abbrev Inv-loop : tie.InvT-loop
 Inv-loop list days₀ i₀ days i = (i ≤ lib.ListN.length list) × (days ≡ padded mostClosed (day 0) (map day (take i list)))
@@ -44,8 +44,8 @@ loop-again c = (omega arith, stored-more (c .before .before .before .args .list 
 returns : tie.Need-returns Inv-loop μ-loop
 returns c = (stored-all (c .before .before .args .list .now) (c .before .loop .i) (c .before .loop .days) (c .before .loop .inv .0) (c .loop-test .left) (c .before .loop .inv .1), refl)
 
-pub listed-spec : {M : Type 1} → statement M
-listed-spec =
+pub of-spec : {M : Type 1} → statement M
+of-spec =
     tie.close
     (tie.spec
     Inv-loop
