@@ -11,6 +11,7 @@ use Rattle.calendar.specs.Closed.{day, closedRefused, closedDays}
 use Rattle.calendar.specs.Days.{clearingDays}
 use Rattle.instructions.specs.Legs.{noLegs}
 use Rattle.ledger.specs.declared.Terms.{Terms}
+use Rattle.ledger.specs.declared.Setup.{Setup}
 use Rattle.ledger.specs.Ledger.{newLedger}
 use Rattle.reprint.specs.Kept.{keptFrom}
 use Rattle.book.specs.declared.Book.{Book}
@@ -23,10 +24,14 @@ termsOf terms =
     pick (eqb terms 0) (record { notice = clearingDays 29; grace = clearingDays 30; last = clearingDays 35 })
     (record { notice = clearingDays 7; grace = clearingDays 10; last = clearingDays 13 })
 
+-- O5, Open: what a book with these closed days and this number of terms keeps to
+abbrev pub setupOf : ClosedDays → ℕ → Setup
+setupOf closedDays terms = record { «closed_days» = closedDays; terms = termsOf terms }
+
 -- O5, Open: a fresh book
 abbrev pub freshBook : Day → ClosedDays → ℕ → Book
 freshBook first closedDays terms = record {
-  setup = record { «closed_days» = closedDays; terms = termsOf terms };
+  setup = setupOf closedDays terms;
   day = record { today = first; «close_since» = false; «has_closed» = false };
   legs = noLegs;
   ledger = newLedger;

@@ -15,6 +15,7 @@ ghost use Prim.Native.Nat.{_+_, _*_, _≤_};
 ghost use lib.ListN.{length};
 ghost use lib.Seq.{sets};
 ghost use Rattle.amounts.specs.Amounts.{mostClosePrice, mostOfferPrice};
+ghost use Rattle.ledger.specs.Setup.{ValidTerms};
 ghost use Rattle.ledger.specs.Lines.{wordsInLine};
 ghost use Rattle.ledger.specs.Obligations.{ageBy, Sound, Takes};
 ghost use Rattle.offers.specs.Held.{listedOffers};
@@ -123,6 +124,7 @@ fn keep_price(o: Obligation, terms: Terms, age: ClearingDays, price: u64) -> Obl
 
 // Decides what is done to an obligation of this age beside its penalty.
 fn measures_at(terms: Terms, age: ClearingDays, o: Obligation) -> Measures
+    requires { ⌜ ValidTerms terms ⌝ }
     ensures { λ r. ⌜ r ≡ measuresAt terms (age .0) o ⌝ }
 {
     let last = o.last_of(terms);

@@ -14,7 +14,7 @@ use Rattle.calendar.specs.declared.Day.{Day}
 use Rattle.calendar.specs.Closed.{day, closedDays, closedRefused, listedDays}
 use Rattle.refusals.specs.Calls.{badFirst}
 use Rattle.book.specs.Book.{Valid}
-use Rattle.book.specs.Open.{opened, openRefusals, openRefused, termsOf, freshBook, refusedBook}
+use Rattle.book.specs.Open.{opened, openRefusals, openRefused, setupOf, freshBook, refusedBook}
 use Rattle.book.proofs.FreshBooks.{fresh-valid, refused-valid, first-good}
 use Rattle.book.proofs.Paid.{zero-at}
 use Rattle.journal.specs.Calls.{Opening, Call, Run}
@@ -33,7 +33,7 @@ pub record Known (s : Run) : Type 0 where
 
 -- ---- the start
 fresh-agrees : (o : Opening) (first : Day) (ds : List ℕ) (terms : ℕ) → Valid (freshBook first (closedDays ds) terms) →
-    record { «closed_days» = closedDays ds; terms = termsOf terms } ≡ setupIn o → first ≡ firstDay o → Agrees o (freshBook first (closedDays ds) terms) []
+    setupOf (closedDays ds) terms ≡ setupIn o → first ≡ firstDay o → Agrees o (freshBook first (closedDays ds) terms) []
 unfolding todayIn instructedIn partIn gracePriceIn wishedIn accountIn lastClosedIn total
 fresh-agrees o first ds terms v s f =
     let nobody : (n : ℕ) → ltb n 0 ≡ false = λ n. le-ltb n 0 (omega arith) in

@@ -24,7 +24,7 @@ use Rattle.ledger.specs.Obligations.{sides}
 use Rattle.closing.specs.declared.Line.{Line}
 use Rattle.closing.specs.Lines.{penaltyKind}
 use Rattle.payments.specs.Month.{amountsPaid}
-use Rattle.book.specs.Open.{openRefusals, termsOf}
+use Rattle.book.specs.Open.{openRefusals, setupOf}
 use Rattle.journal.specs.Calls.{Opening, Event}
 use Rattle.journal.specs.Facts.{Instructed, instructs, isEnd, reported, priceOf, facts, movedBy}
 
@@ -37,17 +37,17 @@ openedWith o given refused = outcome (answer (openRefusals (o .first) (o .closed
 abbrev pub firstDay : Opening → Day
 firstDay o = openedWith o (o .first) (day 2)
 
+-- O5 and O6, Open: the closed days and the terms, to which the book keeps
+abbrev pub setupIn : Opening → Setup
+setupIn o = openedWith o (setupOf (closedDays (o .closed)) (o .terms)) (setupOf (closedDays []) 0)
+
 -- O5 and O6, Open: the closed days
 abbrev pub closedDaysIn : Opening → ClosedDays
-closedDaysIn o = openedWith o (closedDays (o .closed)) (closedDays [])
+closedDaysIn o = setupIn o .«closed_days»
 
 -- O5 and O6, Open: the terms
 abbrev pub termsIn : Opening → Terms
-termsIn o = openedWith o (termsOf (o .terms)) (termsOf 0)
-
--- O5 and O6, Open: the closed days and the terms, to which the book keeps
-abbrev pub setupIn : Opening → Setup
-setupIn o = record { «closed_days» = closedDaysIn o; terms = termsIn o }
+termsIn o = setupIn o .terms
 
 -- C17, Close: today moves on to the next clearing day. An accepted Close has one: without a next clearing day a Close is
 -- refused by 20 (R20), so that the day stays.

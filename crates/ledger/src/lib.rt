@@ -8,6 +8,7 @@ use offers::Offers;
 ghost use mathlib.Core.Path.{_≡_};
 ghost use Prim.Native.Nat.{_+_, _≤_, _<_};
 ghost use Rattle.amounts.specs.Amounts.{mostQuantity, mostClosePrice};
+ghost use Rattle.ledger.specs.Setup.{ValidTerms};
 ghost use Rattle.ledger.specs.Parts.{moved, allParts};
 ghost use Rattle.ledger.specs.Obligations.{newObligation, settled, cashOf, moving, Sound, Takes};
 ghost use Rattle.ledger.specs.Obligations.{lastOf, inBuyIn, isDue, sidesOf, withGracePrice};
@@ -230,6 +231,7 @@ impl Obligation {
 
     // The age of the obligation on its last day, by the terms of the book.
     pub fn last_of(self, terms: Terms) -> ClearingDays
+        requires { ⌜ ValidTerms terms ⌝ }
         ensures { λ r. ⌜ r .0 ≡ lastOf terms self ⌝ }
     {
         terms.last

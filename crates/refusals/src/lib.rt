@@ -23,6 +23,7 @@ ghost use Prim.Native.Nat.{_≤_};
 ghost use Rattle.basics.specs.Refusals.{answer};
 ghost use Rattle.amounts.specs.Amounts.{mostOfferPrice, mostClosePrice};
 ghost use Rattle.instructions.specs.Legs.{legOf};
+ghost use Rattle.ledger.specs.Setup.{ValidTerms};
 ghost use Rattle.refusals.specs.Calls.{badFirst, badParties, badDay, enterRefusals, cancelRefusalsOf};
 ghost use Rattle.refusals.specs.Calls.{deliverRefusalsOf, offerRefusalsIn, offerRefusalsOf, badRates, isShort, closeRefusalsIn, againRefusals};
 
@@ -120,7 +121,7 @@ pub fn offer_answer_of(
     found: Obligation,
     price: u64,
 ) -> u64
-    requires { ⌜ (price ≤ mostOfferPrice) × (found .stage .«grace_price» ≤ mostClosePrice) ⌝ }
+    requires { ⌜ (ValidTerms terms) × (price ≤ mostOfferPrice) × (found .stage .«grace_price» ≤ mostClosePrice) ⌝ }
     ensures { λ r. ⌜ r ≡ answer (offerRefusalsOf terms today (age .0) offers found price) ⌝ }
 {
     if found.parts.outstanding == 0 {

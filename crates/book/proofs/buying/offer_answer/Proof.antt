@@ -50,6 +50,7 @@ offer-answer-of-requires : tie.Need-offer-answer-of-requires
 offer-answer-of-requires c κs =
     let found = c .before .before .before in
     let s = found .before .before .before .before .before in (
+      s .pre .1 .terms,
       offered _ _ _ (passes (found .before .before .before)) .price-within .1,
       fetched-sound (s .args .ledger) (s .pre .0) (s .args .obligation) refl _ (finds found) .stage .price-most,
     )
