@@ -2,9 +2,8 @@
 -- this call.
 use Prim.Native.Nat.{ℕ}
 use native.Mathlib.Omega.{arith}
-use mathlib.Core.Path.{_≡_, refl, subst, ap, _∙_}
+use mathlib.Core.Path.{_≡_, refl, sym, subst, ap, _∙_}
 use mathlib.Core.List.{List, [], _∷_, _++_}
-use mathlib.Core.Option.{none, some}
 use lib.ListN.{drop, length-replicate}
 use Rattle.book.specs.declared.Book.{Book}
 use Rattle.book.specs.Instructing.{withdraw}
@@ -13,38 +12,42 @@ use Rattle.book.specs.Month.{month, monthWords}
 use Rattle.reading.specs.declared.Name.{Name}
 use Rattle.reading.specs.declared.Shape.{Shape}
 use Rattle.reading.specs.declared.Line.{Line}
-use Rattle.answers.specs.Told.{numbersTold, closedTold, wordsTold}
+use Rattle.answers.specs.Told.{numbersTold, wordsTold}
+use Rattle.journal.specs.Calls.{Opening}
 use Rattle.settle.specs.declared.calls.Asked.{Asked}
 use Rattle.settle.specs.declared.calls.Played.{Played}
-use Rattle.settle.specs.Calls.{playedWith, listIn, lentTo, Asking, askingOf, answerBy, wordsBy, afterCall, wordsAfter}
+use Rattle.settle.specs.Calls.{playedWith, listIn, lentTo, Asking, askingOf, answerBy, wordsBy, afterClose, afterCall, wordsAfter}
+use Rattle.settle.specs.Calls.Request.{an-open, a-call, neither}
 use Rattle.settle.specs.Turns.{Gives}
 use Rattle.settle.specs.Turns.Gives.{opening, calling, showing, balancing, looking, targeting, ruling, passing, objecting}
 
-module _ (a : Asked) (ns : List ℕ) {name other : Name} (e : other ≡ name) {k : Asking} (h : askingOf name a ns ≡ some k) where
-  -- a line that asks for no call asks for none
-  not-asked : {A : Type 0} → askingOf other a ns ≡ none → A
-  not-asked f =
-      let no : askingOf name a ns ≡ none = subst (λ (x : Name). askingOf x a ns ≡ none) e f in
-      absurd (let z : _≡_ {A = ℕ} 0 1 = cc in omega arith)
+-- a line with the same name asks for the same call
+asked-too : (a : Asked) (ns : List ℕ) {name other : Name} {k : Asking} → other ≡ name → askingOf name a ns ≡ a-call k
+    → askingOf other a ns ≡ a-call k
+asked-too a ns {k = k} e h = subst (λ (x : Name). askingOf x a ns ≡ a-call k) (sym e) h
 
-  -- what a line asks is one call of a journal
-  asked-same : {i : Asking} → askingOf other a ns ≡ some i → i ≡ k
-  asked-same {i} f = let same : askingOf name a ns ≡ some i = subst (λ (x : Name). askingOf x a ns ≡ some i) e f in cc
+-- an Open is no call, and neither is a line that is neither of the two
+open-no-call : {A : Type 0} {o : Opening} {k : Asking} → an-open o ≡ a-call k → A
+open-no-call e = absurd (let z : _≡_ {A = ℕ} 0 1 = cc in omega arith)
+
+neither-no-call : {A : Type 0} {k : Asking} → neither ≡ a-call k → A
+neither-no-call e = absurd (let z : _≡_ {A = ℕ} 0 1 = cc in omega arith)
 
 -- whatever a line does that asks for a call, it does what the rules give for the call
 pub asked-as : {b : Book} {a : Asked} {ns ws after : List ℕ} {l : Line} {p : Played} {name : Name} {shape : Shape} {n : ℕ} {k : Asking}
-    → Gives b a ns ws l p after → l ≡ Line.Call name shape n → askingOf name a ns ≡ some k
+    → Gives b a ns ws l p after → l ≡ Line.Call name shape n → askingOf name a ns ≡ a-call k
     → (p ≡ afterCall b a k) × (after ≡ wordsAfter b a k ws)
-asked-as {a = a} {ns = ns} {name = name} (opening s m) e h = let named : Name.Open ≡ name = cc in not-asked a ns named h refl
-asked-as {b} {a} {ns} {ws} {name = name} (calling m s j i f) e h =
+asked-as {a = a} {ns = ns} {name = name} (opening s m) e h = let named : Name.Open ≡ name = cc in open-no-call (asked-too a ns named h)
+asked-as {b} {a} {ns} {ws} {name = name} {k = k} (calling m s j i f) e h =
     let named : m ≡ name = cc in
-    let same = asked-same a ns named h f in
+    let too = asked-too a ns named h in
+    let same : i ≡ k = cc in
     (ap (afterCall b a) same, ap (λ (x : Asking). wordsAfter b a x ws) same)
-asked-as {a = a} {ns = ns} {name = name} (showing s m) e h = let named : Name.Status ≡ name = cc in not-asked a ns named h refl
-asked-as {a = a} {ns = ns} {name = name} (balancing s m) e h = let named : Name.Account ≡ name = cc in not-asked a ns named h refl
-asked-as {a = a} {ns = ns} {name = name} (looking s m answer g) e h = let named : Name.Look ≡ name = cc in not-asked a ns named h refl
-asked-as {a = a} {ns = ns} {name = name} (targeting s m) e h = let named : Name.Target ≡ name = cc in not-asked a ns named h refl
-asked-as {a = a} {ns = ns} {name = name} (ruling s m) e h = let named : Name.Rules ≡ name = cc in not-asked a ns named h refl
+asked-as {a = a} {ns = ns} {name = name} (showing s m) e h = let named : Name.Status ≡ name = cc in neither-no-call (asked-too a ns named h)
+asked-as {a = a} {ns = ns} {name = name} (balancing s m) e h = let named : Name.Account ≡ name = cc in neither-no-call (asked-too a ns named h)
+asked-as {a = a} {ns = ns} {name = name} (looking s m answer g) e h = let named : Name.Look ≡ name = cc in neither-no-call (asked-too a ns named h)
+asked-as {a = a} {ns = ns} {name = name} (targeting s m) e h = let named : Name.Target ≡ name = cc in neither-no-call (asked-too a ns named h)
+asked-as {a = a} {ns = ns} {name = name} (ruling s m) e h = let named : Name.Rules ≡ name = cc in neither-no-call (asked-too a ns named h)
 asked-as passing e h = absurd (let z : _≡_ {A = ℕ} 0 1 = cc in omega arith)
 asked-as objecting e h = absurd (let z : _≡_ {A = ℕ} 0 1 = cc in omega arith)
 
@@ -59,14 +62,13 @@ module _ (b : Book) (a : Asked) (ns ws : List ℕ) (l : Line) (p : Played) (afte
 
   -- a close: the book, the answer number and the lines of a Close, in the words that it was lent
   pub closes : l ≡ Line.Call Name.Close shape n
-      → (p ≡ playedWith (close b (a .first) (a .second) (a .lent) .book)
-      (closedTold (close b (a .first) (a .second) (a .lent) .answer) (close b (a .first) (a .second) (a .lent) .count) (a .lent) (a .fill)))
+      → (p ≡ afterClose (close b (a .first) (a .second) (a .lent)) (a .lent) (a .fill))
       × (after ≡ closeWords b (a .first) (a .second) (lentTo a) ++ drop (a .lent) ws)
   unfolding answerBy wordsBy
   closes e =
       let is = asked-as gives e refl in (
         is .0
-            ∙ ap (λ (k : ℕ). let r = close b (a .first) (a .second) k in playedWith (r .book) (closedTold (r .answer) (r .count) (a .lent) (a .fill)))
+            ∙ ap (λ (k : ℕ). afterClose (close b (a .first) (a .second) k) (a .lent) (a .fill))
             (length-replicate (a .lent) (a .fill)),
         is .1,
       )

@@ -5,9 +5,9 @@ use mathlib.Core.List.{List, _++_}
 use lib.ListN.{length, take, drop, replicate, length-replicate}
 use lib.Seq.{take-append-seam, drop-append-seam}
 use Rattle.book.specs.declared.Closed.{Closed}
-use Rattle.answers.specs.Told.{closedTold}
+use Rattle.book.specs.Book.{Valid}
 use Rattle.settle.specs.declared.calls.Played.{Played}
-use Rattle.settle.specs.Calls.{playedWith}
+use Rattle.settle.specs.Calls.{afterClose}
 
 module _ (n value : ℕ) (words filled : List ℕ) (is : filled ≡ replicate n value ++ drop n words) where
   -- the first n words have the value
@@ -34,6 +34,11 @@ module _ (n value : ℕ) (words filled : List ℕ) (is : filled ≡ replicate n 
   as-lent call left told r us done ended made =
       (made ∙ ap told (done ∙ ap call filled-front), ap₂ _++_ (ended ∙ ap left filled-front) filled-rest)
 
--- a Close or an Again as it is told
-abbrev pub toldByLines : ℕ → ℕ → Closed → Played
-toldByLines n value r = playedWith (r .book) (closedTold (r .answer) (r .count) n value)
+  -- the same for a Close or an Again, whose book is valid
+  pub lines-lent : (call : List ℕ → Closed) (left : List ℕ → List ℕ) (r : Closed) (us : List ℕ) {t : Played}
+      → (r ≡ call (take n filled)) × ((us ≡ left (take n filled)) × Valid (r .book)) → t ≡ afterClose r n value
+      → (t ≡ afterClose (call (replicate n value)) n value)
+      × ((us ++ drop n filled ≡ left (replicate n value) ++ drop n words) × Valid (t .book))
+  lines-lent call left r us done made =
+      let is = as-lent call left (λ (x : Closed). afterClose x n value) r us (done .0) (done .1 .0) made in
+      (is .0, (is .1, rw made (done .1 .1)))

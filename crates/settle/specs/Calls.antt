@@ -3,7 +3,6 @@
 use Prim.Native.Nat.{ℕ}
 use mathlib.Core.Path.{_≡_}
 use mathlib.Core.List.{List, [], _∷_, _++_}
-use mathlib.Core.Option.{Option, none, some}
 use lib.ListN.{getD, drop, replicate}
 use Rattle.basics.specs.Lists.{between}
 use Rattle.calendar.specs.Closed.{day}
@@ -15,6 +14,7 @@ use Rattle.book.specs.declared.Entered.{Entered}
 use Rattle.book.specs.declared.Done.{Done}
 use Rattle.book.specs.declared.Cancelled.{Cancelled}
 use Rattle.book.specs.declared.Delivered.{Delivered}
+use Rattle.book.specs.declared.Closed.{Closed}
 use Rattle.book.specs.declared.Shown.{Shown}
 use Rattle.book.specs.declared.Balance.{Balance}
 use Rattle.book.specs.declared.Looked.{Looked}
@@ -23,7 +23,7 @@ use Rattle.book.specs.Instructing.{enter}
 use Rattle.book.specs.Showing.{status, account, Looks}
 use Rattle.answers.specs.declared.Answer.{Answer}
 use Rattle.answers.specs.Told.{nothing, numbersTold, balanceTold, closedTold, wordsTold}
-use Rattle.journal.specs.Calls.{Call}
+use Rattle.journal.specs.Calls.{Opening, Call}
 use Rattle.journal.specs.Played.{Outcome, outcomeOf}
 use Rattle.reading.specs.declared.Name.{Name}
 use Rattle.settle.specs.declared.calls.Asked.{Asked}
@@ -33,9 +33,17 @@ use Rattle.settle.specs.declared.calls.Played.{Played}
 abbrev pub playedWith : Book → Answer → Played
 playedWith b answer = record { book = b; answer = answer }
 
+-- what comes of an Open
+abbrev pub openedWith : Opening → Opened
+openedWith o = opened (o .first) (o .closed) (o .terms)
+
+-- an Open that is refused, since no terms have the number 2
+abbrev pub refusedOpening : Opening
+refusedOpening = record { first = day 0; closed = []; terms = 2 }
+
 -- before the first line: the book that a refused Open returns, and no answer
 abbrev pub atFirst : Played
-atFirst = playedWith (opened (day 0) [] 2 .book) nothing
+atFirst = playedWith (openedWith refusedOpening .book) nothing
 
 -- the list that stands among a call's numbers
 abbrev pub listIn : Asked → List ℕ → List ℕ
@@ -60,9 +68,19 @@ pub record Asking : Type 0 where
   pub call : Call
   pub manner : Manner
 
+-- what a line asks for: an Open, with which another journal begins, a call of the journal, or neither of the two
+pub data Request : Type 0 where
+  an-open : Opening → Request
+  a-call : Asking → Request
+  neither : Request
+
+-- open: first day, terms, closed days
+abbrev pub openAsked : Asked → List ℕ → Opening
+openAsked a ns = record { first = day (a .first); closed = listIn a ns; terms = a .second }
+
 -- a call that is answered by numbers
-abbrev pub plain : Call → Option Asking
-plain c = some (record { call = c; manner = by-numbers })
+abbrev pub plain : Call → Request
+plain c = a-call (record { call = c; manner = by-numbers })
 
 -- a close, which is lent words for its lines
 abbrev pub closeAsked : Asked → Asking
@@ -76,23 +94,23 @@ againAsked a = record { call = Call.again (lentTo a); manner = by-lines }
 abbrev pub monthAsked : Asked → List ℕ → Asking
 monthAsked a ns = record { call = Call.month (listIn a ns) (lentTo a); manner = by-payouts }
 
--- The call of a journal that a line asks for. An open begins another journal, and the others leave the book as it is or
--- take none.
-abbrev pub askingOf : Name → Asked → List ℕ → Option Asking
-askingOf Name.Open a ns = none
+-- What a line asks for, by its name. A line that asks for neither an Open nor a call leaves the book as it is or takes
+-- none.
+abbrev pub askingOf : Name → Asked → List ℕ → Request
+askingOf Name.Open a ns = an-open (openAsked a ns)
 askingOf Name.Enter a ns = plain (Call.enter (a .first) (a .second) (a .third) (a .fourth) (a .fifth) (day (a .sixth)))
 askingOf Name.Withdraw a ns = plain (Call.withdraw (a .first) (a .second))
 askingOf Name.Cancel a ns = plain (Call.cancel (a .first) (a .second))
 askingOf Name.Deliver a ns = plain (Call.deliver (a .first) (a .second))
 askingOf Name.Offer a ns = plain (Call.offer (a .first) (a .second) (a .third) (a .fourth))
-askingOf Name.Close a ns = some (closeAsked a)
-askingOf Name.Again a ns = some (againAsked a)
-askingOf Name.Month a ns = some (monthAsked a ns)
-askingOf Name.Status a ns = none
-askingOf Name.Account a ns = none
-askingOf Name.Look a ns = none
-askingOf Name.Target a ns = none
-askingOf Name.Rules a ns = none
+askingOf Name.Close a ns = a-call (closeAsked a)
+askingOf Name.Again a ns = a-call (againAsked a)
+askingOf Name.Month a ns = a-call (monthAsked a ns)
+askingOf Name.Status a ns = neither
+askingOf Name.Account a ns = neither
+askingOf Name.Look a ns = neither
+askingOf Name.Target a ns = neither
+askingOf Name.Rules a ns = neither
 
 -- the answer to a call: the answer number and the results, the lines, or the payouts
 unfoldable pub answerBy : Manner → Asked → Outcome → Answer
@@ -118,9 +136,9 @@ wordsAfter b a k ws = wordsBy (k .manner) a (outcomeOf b (k .call)) ws
 abbrev pub afterOpen : Opened → Played
 afterOpen r = playedWith (r .book) (numbersTold (r .answer ∷ []))
 
--- open: first day, terms, closed days
+-- the book and the answer after an open with these numbers
 abbrev pub opens : Asked → List ℕ → Played
-opens a ns = afterOpen (opened (day (a .first)) (listIn a ns) (a .second))
+opens a ns = afterOpen (openedWith (openAsked a ns))
 
 -- the book and the answer after an enter
 abbrev pub afterEnter : Entered → Played
@@ -141,6 +159,10 @@ afterCancel r = playedWith (r .book) (numbersTold (r .answer ∷ r .moved ∷ []
 -- the book and the answer after a deliver
 abbrev pub afterDeliver : Delivered → Played
 afterDeliver r = playedWith (r .book) (numbersTold (r .answer ∷ r .cash ∷ []))
+
+-- the book and the answer after a close or an again that was lent n words, filled with a value
+abbrev pub afterClose : Closed → ℕ → ℕ → Played
+afterClose r n value = playedWith (r .book) (closedTold (r .answer) (r .count) n value)
 
 -- the answer to a status
 abbrev pub shownAs : Shown → Answer

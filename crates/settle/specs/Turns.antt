@@ -2,7 +2,6 @@
 use Prim.Native.Nat.{ℕ, suc, _-_, _≤_, _<_}
 use mathlib.Core.Path.{_≡_}
 use mathlib.Core.List.{List}
-use mathlib.Core.Option.{some}
 use lib.ListN.{length}
 use Rattle.book.specs.declared.Book.{Book}
 use Rattle.lines.specs.declared.Taken.{Taken}
@@ -22,6 +21,7 @@ use Rattle.settle.specs.declared.flow.Course.the-variants.{Going, Over, 
 use Rattle.settle.specs.declared.flow.Flow.{Flow}
 use Rattle.settle.specs.Asked.{asks, noted}
 use Rattle.settle.specs.Calls.{playedWith, atFirst, opens, Asking, askingOf, afterCall, wordsAfter}
+use Rattle.settle.specs.Calls.Request.{a-call}
 use Rattle.settle.specs.Calls.{shows, balances, LooksAs, targets, wordsTargeted, editionTold}
 use Rattle.settle.specs.Flow.{atStart, FedOn, TakenOn, ToldOn}
 
@@ -38,7 +38,7 @@ pub record Buffers (line numbers words out : List ℕ) : Type 0 where
 -- after the line, its answer, and the words as the line leaves them.
 pub data Gives (b : Book) (a : Asked) (ns ws : List ℕ) : Line → Played → List ℕ → Type 0 where
   opening : (shape : Shape) (n : ℕ) → Gives b a ns ws (Call Name.Open shape n) (opens a ns) ws
-  calling : (name : Name) (shape : Shape) (n : ℕ) (k : Asking) → askingOf name a ns ≡ some k →
+  calling : (name : Name) (shape : Shape) (n : ℕ) (k : Asking) → askingOf name a ns ≡ a-call k →
       Gives b a ns ws (Call name shape n) (afterCall b a k) (wordsAfter b a k ws)
   showing : (shape : Shape) (n : ℕ) → Gives b a ns ws (Call Name.Status shape n) (playedWith b (shows b a)) ws
   balancing : (shape : Shape) (n : ℕ) → Gives b a ns ws (Call Name.Account shape n) (playedWith b (balances b a)) ws

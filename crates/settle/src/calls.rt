@@ -3,6 +3,7 @@ use answers::Answer;
 use book::Balance;
 use book::Book;
 use book::Cancelled;
+use book::Closed;
 use book::Delivered;
 use book::Done;
 use book::Looked;
@@ -20,7 +21,7 @@ ghost use lib.ListN.{length, take, drop, replicate};
 ghost use Rattle.book.specs.Book.{Valid};
 ghost use Rattle.reading.specs.Calls.{mostNumbers, shapeRight};
 ghost use Rattle.settle.specs.Asked.{nothingAsked, askedWith, askedLent, askedCall, asks, noted, Listed};
-ghost use Rattle.settle.specs.Calls.{atFirst, opens, enters, afterDone, afterCancel, afterDeliver, afterCall, wordsAfter};
+ghost use Rattle.settle.specs.Calls.{atFirst, opens, enters, afterDone, afterCancel, afterDeliver, afterClose, afterCall, wordsAfter};
 ghost use Rattle.settle.specs.Calls.{closeAsked, againAsked, monthAsked, shownAs, balanceAs, lookedAs};
 ghost use Rattle.settle.specs.Calls.{targets, wordsTargeted, editionTold};
 
@@ -207,6 +208,17 @@ fn fill(words: &mut [u64], count: usize, value: u64)
     }
 }
 
+// What is answered to a close or an again that was lent this number of words, filled with this value.
+fn closed(done: Closed, lent: usize, fill: u64) -> Played
+    ensures { λ r. ⌜ r ≡ afterClose done lent fill ⌝ }
+{
+    let after = done.book;
+    Played {
+        book: after,
+        answer: Answer::closed(done.answer, done.count, lent, fill),
+    }
+}
+
 pub fn close(book: Book, a: Asked, words: &mut [u64]) -> Played
     requires { ⌜ (Valid book) × (a .lent ≤ length (now words)) ⌝ }
     ensures { λ r. ⌜ r ≡ afterCall book a (closeAsked a) ⌝ }
@@ -216,11 +228,7 @@ pub fn close(book: Book, a: Asked, words: &mut [u64]) -> Played
     let lent = a.lent;
     fill(words, lent, a.fill);
     let done = book.close(a.first, a.second, &mut words[..lent]);
-    let after = done.book;
-    Played {
-        book: after,
-        answer: Answer::closed(done.answer, done.count, lent, a.fill),
-    }
+    closed(done, lent, a.fill)
 }
 
 pub fn again(book: Book, a: Asked, words: &mut [u64]) -> Played
@@ -232,11 +240,7 @@ pub fn again(book: Book, a: Asked, words: &mut [u64]) -> Played
     let lent = a.lent;
     fill(words, lent, a.fill);
     let shown = book.again(&mut words[..lent]);
-    let after = shown.book;
-    Played {
-        book: after,
-        answer: Answer::closed(shown.answer, shown.count, lent, a.fill),
-    }
+    closed(shown, lent, a.fill)
 }
 
 pub fn month(book: Book, a: Asked, n: &[u64], words: &mut [u64]) -> Played

@@ -38,6 +38,14 @@ Inv-loop part₀ line₀ numbers₀ words₀ out₀ turns₀ flow₀ played₀ p
 abbrev μ-loop : tie.MeasureT-loop
 μ-loop part₀ line₀ numbers₀ words₀ out₀ turns₀ flow₀ played₀ part line numbers words out turns flow playedWith = turns
 
+-- from the place where bytes were taken back to the one where more was read if need be, and from there to the one where
+-- the turn began
+abbrev fed-before : tie.After-take Inv-loop μ-loop → tie.After-feed-on Inv-loop μ-loop
+fed-before t = t .before .before .before .before .before
+
+abbrev began : tie.After-feed-on Inv-loop μ-loop → tie.At-loop Inv-loop μ-loop
+began f = f .before .before .before .before
+
 -- the places of a turn, once it is known what the line asks: where the line was asked, taken and fed, where the loop's
 -- test was passed, and where the turn began
 abbrev asked : tie.After-slice-known8 Inv-loop μ-loop → tie.After-ask Inv-loop μ-loop
@@ -47,13 +55,13 @@ abbrev took : tie.After-slice-known8 Inv-loop μ-loop → tie.After-take Inv-loo
 took s = asked s .before .before .before .before .before
 
 abbrev fed : tie.After-slice-known8 Inv-loop μ-loop → tie.After-feed-on Inv-loop μ-loop
-fed s = took s .before .before .before .before .before
+fed s = fed-before (took s)
 
 abbrev tested : tie.After-slice-known8 Inv-loop μ-loop → tie.In-loop Inv-loop μ-loop
 tested s = fed s .before .before .before
 
 abbrev turn : tie.After-slice-known8 Inv-loop μ-loop → tie.At-loop Inv-loop μ-loop
-turn s = tested s .before
+turn s = began (fed s)
 
 -- the book before the line
 abbrev book : tie.After-slice-known8 Inv-loop μ-loop → Book
@@ -144,7 +152,7 @@ feed-on-requires c κs = let s = c .before .before .before .loop .inv .0 in (s .
 take-requires : tie.Need-take-requires Inv-loop μ-loop
 take-requires c κs =
     let fed = c .before .before .before .before in
-    let s = fed .before .before .before .before .loop .inv .0 in
+    let s = began fed .loop .inv .0 in
     let on = fed-kept (fed .feed-on .ensures) (s .read) in
     let fit = fed-ready (fed .feed-on .ensures) (s .room .writable) (s .ordered) in
     (fit .ordered, on .within, omega (arith, on .held, s .held))
@@ -152,11 +160,15 @@ take-requires c κs =
 ask-requires : tie.Need-ask-requires Inv-loop μ-loop
 ask-requires c κs =
     let took = c .before .before .before .before in
-    let s = took .before .before .before .before .before .before .before .before .before .loop .inv .0 in
+    let s = began (fed-before took) .loop .inv .0 in
     (omega (arith, took-within (took .take .ensures) .whole, took .take .kept .1 .1 .0), s .room .numbered)
 
+-- from the place where the line is known to be a call back to the one where it is known what the line asks
+abbrev named : tie.After-known-told Inv-loop μ-loop → tie.After-slice-known8 Inv-loop μ-loop
+named k = k .before .before .before
+
 open-requires : tie.Need-open-requires Inv-loop μ-loop
-open-requires c κs = asked (c .before .before .before .before .before .before) .ask .ensures .1 .1
+open-requires c κs = asked (named (c .before .before .before)) .ask .ensures .1 .1
 
 -- the words that a line asks for are there
 lends : (s : tie.After-slice-known8 Inv-loop μ-loop) → asked s .ask .result .lent ≤ length (turn s .loop .words)
@@ -167,18 +179,18 @@ lends-lines : (s : tie.After-slice-known8 Inv-loop μ-loop) → (Valid (book s))
 lends-lines s = (valid s, lends s)
 
 close-requires : tie.Need-close-requires Inv-loop μ-loop
-close-requires c κs = lends-lines (c .before .before .before .before .before .before)
+close-requires c κs = lends-lines (named (c .before .before .before))
 
 again-requires : tie.Need-again-requires Inv-loop μ-loop
-again-requires c κs = lends-lines (c .before .before .before .before .before .before)
+again-requires c κs = lends-lines (named (c .before .before .before))
 
 month-requires : tie.Need-month-requires Inv-loop μ-loop
 month-requires c κs =
-    let s = c .before .before .before .before .before .before .before in
+    let s = named (c .before .before .before .before) in
     (valid s, asked s .ask .ensures .1 .1, lends s)
 
 target-days-requires : tie.Need-target-days-requires Inv-loop μ-loop
-target-days-requires c κs = lends (c .before .before .before .before .before .before)
+target-days-requires c κs = lends (named (c .before .before .before))
 
 tell-requires : tie.Need-tell-requires Inv-loop μ-loop
 tell-requires c κs = (given (c .before .before) .tells, ready (c .before .before .before) .room)
@@ -245,17 +257,17 @@ settle-all-spec =
     ask-requires
     (λ c. search needs)
     (λ c. search needs) open-requires
-    (λ c. search needs) (λ c κs. valid (c .before .before .before .before .before))
-    (λ c. search needs) (λ c κs. valid (c .before .before .before .before .before)) (λ c κs. search needs)
-    (λ c. search needs) (λ c κs. valid (c .before .before .before .before .before)) (λ c κs. search needs)
-    (λ c. search needs) (λ c κs. valid (c .before .before .before .before .before)) (λ c κs. search needs)
-    (λ c. search needs) (λ c κs. valid (c .before .before .before .before .before)) (λ c κs. search needs)
+    (λ c. search needs) (λ c κs. valid (named (c .before .before)))
+    (λ c. search needs) (λ c κs. valid (named (c .before .before))) (λ c κs. search needs)
+    (λ c. search needs) (λ c κs. valid (named (c .before .before))) (λ c κs. search needs)
+    (λ c. search needs) (λ c κs. valid (named (c .before .before))) (λ c κs. search needs)
+    (λ c. search needs) (λ c κs. valid (named (c .before .before))) (λ c κs. search needs)
     (λ c. search needs) close-requires
     (λ c. search needs) again-requires
     (λ c. search needs) month-requires
-    (λ c. search needs) (λ c κs. valid (c .before .before .before .before .before)) (λ c κs. search needs)
-    (λ c. search needs) (λ c κs. valid (c .before .before .before .before .before)) (λ c κs. search needs)
-    (λ c. search needs) (λ c κs. valid (c .before .before .before .before .before)) (λ c κs. search needs)
+    (λ c. search needs) (λ c κs. valid (named (c .before .before))) (λ c κs. search needs)
+    (λ c. search needs) (λ c κs. valid (named (c .before .before))) (λ c κs. search needs)
+    (λ c. search needs) (λ c κs. valid (named (c .before .before))) (λ c κs. search needs)
     (λ c. search needs) target-days-requires
     (λ c. search needs) (λ c κs. search needs)
     (λ c. search needs) (λ c κs. search needs)

@@ -13,38 +13,11 @@ use Rattle.answers.specs.Told.{wordsTold}
 use Rattle.settle.proofs.calls.month.Statement.{statement}
 use Rattle.settle.proofs.calls.month.Tie as tie
 
-fill-requires : tie.Need-fill-requires
-fill-requires c κs = search needs
-
-mul-month : tie.Need-mul-month
-mul-month c = search needs
-
-sub-month : tie.Need-sub-month
-sub-month c = search needs
-
-part-month-start : tie.Need-part-month-start
-part-month-start c = search needs
-
-part-month-end : tie.Need-part-month-end
-part-month-end c = search needs
-
-slice-relend-prefix-month : tie.Need-slice-relend-prefix-month
-slice-relend-prefix-month c = search needs
-
 slice-aggregate-month : tie.Need-slice-aggregate-month
-slice-aggregate-month c = let s = c .before .before .before .before .before .before .before .before in sym (filled-length (s .args .a .lent) (s .args .a .fill) (s .args .words .now) _ (c .before .before .before .before .fill .ensures))
-
-month-requires : tie.Need-month-requires
-month-requires c κs = search needs
-
-slice-aggregate-with-words : tie.Need-slice-aggregate-with-words
-slice-aggregate-with-words c = search needs
-
-with-words-requires : tie.Need-with-words-requires
-with-words-requires c κs = search needs
-
-same-length : tie.Need-same-length
-same-length c = search needs
+slice-aggregate-month c =
+    let filled = c .before .before .before .before in
+    let s = filled .before .before .before .before in
+    sym (filled-length (s .args .a .lent) (s .args .a .fill) (s .args .words .now) _ (filled .fill .ensures))
 
 returns : tie.Need-returns
 unfolding answerBy wordsBy
@@ -66,15 +39,15 @@ pub month-spec : {M : Type 1} → statement M
 month-spec =
     tie.close
     (tie.spec
-    fill-requires
-    mul-month
-    sub-month
-    part-month-start
-    part-month-end
-    slice-relend-prefix-month
+    (λ c κs. search needs)
+    (λ c. search needs)
+    (λ c. search needs)
+    (λ c. search needs)
+    (λ c. search needs)
+    (λ c. search needs)
     slice-aggregate-month
-    month-requires
-    slice-aggregate-with-words
-    with-words-requires
-    same-length
+    (λ c κs. search needs)
+    (λ c. search needs)
+    (λ c κs. search needs)
+    (λ c. search needs)
     returns)

@@ -29,7 +29,9 @@ same-length c = search needs
 returns-2 : tie.Need-returns-2
 unfolding textAfter
 returns-2 c =
-    rw (c .before .before .before .before .enum-told2 .given .1) (over-front _ _ (c .before .before .tell-over .ensures) (c .before .before .before .before .before .before .before .before .pre .2))
+    let told = c .before .before in
+    let over = told .before .before in
+    rw (over .enum-told2 .given .1) (over-front _ _ (told .tell-over .ensures) (over .before .before .before .before .pre .2))
 
 returns-3 : tie.Need-returns-3
 unfolding textAfter

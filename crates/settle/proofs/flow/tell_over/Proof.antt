@@ -15,7 +15,8 @@ tell-torn-requires c κs = search needs
 
 write-end-requires : tie.Need-write-end-requires
 write-end-requires c κs =
-    end-room _ _ (c .before .before .before .tell-torn .ensures) (c .before .before .before .before .before .before .before .before .pre .1)
+    let torn = c .before .before .before in
+    end-room _ _ (torn .tell-torn .ensures) (torn .before .before .before .before .before .pre .1)
 
 same-length : tie.Need-same-length
 same-length c = search needs
@@ -23,7 +24,9 @@ same-length c = search needs
 returns : tie.Need-returns
 unfolding overText
 returns c =
-    rw (sym (c .before .before .before .before .before .before .before .before .lines .ensures)) (wrote-then (c .before .before .before .before .before .before .tell-torn .ensures) (c .before .before .write-end .ensures))
+    let ended = c .before .before in
+    let torn = ended .before .before .before .before in
+    rw (sym (torn .before .before .lines .ensures)) (wrote-then (torn .tell-torn .ensures) (ended .write-end .ensures))
 
 pub tell-over-spec : {M : Type 1} → statement M
 tell-over-spec =

@@ -13,7 +13,8 @@ shared-slice-read-if2 c = search needs
 
 returns-2 : tie.Need-returns-2
 returns-2 c =
-    torn-comment _ _ _ _ (c .before .before .if1 .left) (c .before .before .before .before .before .pre .0) (c .if2 .taken)
+    let some = c .before .before in
+    torn-comment _ _ _ _ (some .if1 .left) (some .before .before .before .pre .0) (c .if2 .taken)
 
 write-no-call-requires : tie.Need-write-no-call-requires
 write-no-call-requires c κs = search needs
@@ -23,7 +24,10 @@ same-length c = search needs
 
 returns-3 : tie.Need-returns-3
 returns-3 c =
-    torn-answered _ _ _ _ (c .before .before .before .before .before .before .if1 .left) (c .before .before .before .before .before .before .before .before .before .pre .0) (c .before .before .before .before .if2 .left) (c .before .before .write-no-call .ensures)
+    let told = c .before .before in
+    let other = told .before .before in
+    let some = other .before .before in
+    torn-answered _ _ _ _ (some .if1 .left) (some .before .before .before .pre .0) (other .if2 .left) (told .write-no-call .ensures)
 
 pub tell-torn-spec : {M : Type 1} → statement M
 tell-torn-spec =
