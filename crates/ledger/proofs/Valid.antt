@@ -1,7 +1,7 @@
 -- A new ledger is valid, and a changed obligation, a new one and a new offer leave a valid ledger.
 use Prim.Native.Nat.{ℕ, _+_, _<_}
 use native.Mathlib.Omega.{arith}
-use mathlib.Core.Path.{_≡_, refl, sym, _∙_}
+use mathlib.Core.Path.{_≡_, refl, _∙_}
 use mathlib.Core.Bool.{Bool, true, false}
 use lib.Dec.{ltb}
 use lib.ListN.{length-set}
@@ -22,7 +22,7 @@ use Rattle.ledger.specs.declared.Ledger.{Ledger}
 use Rattle.ledger.specs.declared.Fetched.{Fetched}
 use Rattle.ledger.specs.declared.Fetched.the-variants.{Found, Absent}
 use Rattle.ledger.specs.Obligations.{noObligation, Sound}
-use Rattle.ledger.specs.Ledger.{newLedger, obligationAt, fetched, SoundFetched, withObligation, withNew, withOfferFor, SoundOffer, ValidOffers, ValidLedger}
+use Rattle.ledger.specs.Ledger.{newLedger, obligationAt, fetched, withObligation, withNew, withOfferFor, SoundOffer, ValidOffers, ValidLedger}
 
 -- no offers
 pub no-offers-valid : (n : ℕ) → ValidOffers n noOffers
@@ -68,8 +68,8 @@ module _ (l : Ledger) (v : ValidLedger l) where
   there-sound n o t = rw (t .same) (v .sound n (ltb-true n (l .count) (t .below)))
 
   -- what is fetched of it is sound
-  pub fetched-sound : (n : ℕ) {f : Fetched} → f ≡ fetched l n → SoundFetched f
-  fetched-sound n e o found = there-sound n o (found-there l n o (sym e ∙ found))
+  pub found-sound : (n : ℕ) (o : Obligation) → fetched l n ≡ Found o → Sound o
+  found-sound n o e = there-sound n o (found-there l n o e)
 
   -- an obligation of it, changed and sound
   pub valid-changed : (n : ℕ) (o : Obligation) → n < l .count → Sound o → ValidLedger (withObligation n o l)

@@ -49,10 +49,6 @@ fetched l n = pick (ltb n (l .count)) (Found (obligationAt l n)) Absent
 abbrev pub withObligation : ℕ → Obligation → Ledger → Ledger
 withObligation n o l = record { obligations = set (l .obligations) n o; count = l .count; offers = l .offers; accounts = l .accounts }
 
--- what was fetched is sound, if it was found
-abbrev pub SoundFetched : Fetched → Type 0
-SoundFetched f = (o : Obligation) → f ≡ Found o → Sound o
-
 -- A5, Refusals: what a call comes to that is refused by a number: no result, and no obligation
 abbrev pub refusedChange : ℕ → Change
 refusedChange k = record { answer = k; result = 0; obligation = noObligation }

@@ -1,5 +1,6 @@
--- The refusals of each call that need no book: from its input, on the obligation that was fetched, and by the next
--- clearing day.
+-- The refusals of Enter, Cancel, Deliver, Offer, Close and Again: from the input, on the obligation that was fetched, and
+-- by the next clearing day. Here too is what a call that names an obligation comes to, and the condition on the first day
+-- of an Open.
 use Prim.Native.Nat.{ℕ}
 use mathlib.Core.Bool.{Bool, true, false, _||_, not}
 use mathlib.Core.List.{List, [], _∷_, _++_}

@@ -1,5 +1,6 @@
-// The refusals that need no book: from a call's input, and on the obligation that was fetched. Each function gives the
-// answer number of its list of refusals, 0 where none holds.
+// The refusals of Enter, Cancel, Deliver, Offer, Close and Again that need no book: from the input, and on the obligation
+// that was fetched. A function `.._answer` gives the answer number of all refusals of its call, `.._answer_in` that of
+// those from its input, and `.._answer_of` that of those on the obligation; it is 0 if none holds.
 use amounts::MOST_AMOUNT;
 use amounts::MOST_CLOSE_PRICE;
 use amounts::MOST_OFFER_PRICE;

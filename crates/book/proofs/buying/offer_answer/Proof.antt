@@ -5,7 +5,7 @@ use Rattle.basics.specs.Refusals.{answer}
 use Rattle.calendar.specs.declared.ClearingDays.{ClearingDays}
 use Rattle.ledger.specs.declared.Fetched.the-variants.{Found}
 use Rattle.ledger.specs.Ledger.{fetched}
-use Rattle.ledger.proofs.Valid.{fetched-sound}
+use Rattle.ledger.proofs.Valid.{found-sound}
 use Rattle.refusals.specs.Calls.{offerRefusalsIn, offerRefusalsOf}
 use Rattle.refusals.proofs.Offering.{offered}
 use Rattle.refusals.proofs.Named.{input-answer, absent-answer, found-answer}
@@ -52,7 +52,7 @@ offer-answer-of-requires c κs =
     let s = found .before .before .before .before .before in (
       s .pre .1 .terms,
       offered _ _ _ (passes (found .before .before .before)) .price-within .1,
-      fetched-sound (s .args .ledger) (s .pre .0) (s .args .obligation) refl _ (finds found) .stage .price-most,
+      found-sound (s .args .ledger) (s .pre .0) (s .args .obligation) _ (finds found) .stage .price-most,
     )
 
 returns-3 : tie.Need-returns-3

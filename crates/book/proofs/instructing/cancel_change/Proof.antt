@@ -7,7 +7,7 @@ use Rattle.basics.specs.Refusals.{answer}
 use Rattle.basics.proofs.Refusals.{pass, stop, all-passed}
 use Rattle.ledger.specs.declared.Fetched.the-variants.{Found}
 use Rattle.ledger.specs.Ledger.{fetched, refusedChange}
-use Rattle.ledger.proofs.Valid.{fetched-sound}
+use Rattle.ledger.proofs.Valid.{found-sound}
 use Rattle.refusals.specs.Calls.{cancelRefusalsIn}
 use Rattle.refusals.proofs.Named.{input-refused, absent-refused, found-refused, found-done}
 use Rattle.book.specs.Instructing.{cancelChange}
@@ -66,7 +66,7 @@ moved-by-wish-requires : tie.Need-moved-by-wish-requires
 moved-by-wish-requires c κs = search needs
 
 wish-requires : tie.Need-wish-requires
-wish-requires c κs = let found = c .before .before .before .before in let s = found .before .before .before .before in fetched-sound (s .args .ledger) (s .pre) (s .args .obligation) refl _ (finds found)
+wish-requires c κs = let found = c .before .before .before .before in let s = found .before .before .before .before in found-sound (s .args .ledger) (s .pre) (s .args .obligation) _ (finds found)
 
 returns-4 : tie.Need-returns-4
 unfolding cancelChange

@@ -8,7 +8,7 @@ use Rattle.basics.proofs.Refusals.{pass, stop, passed, all-passed}
 use Rattle.ledger.specs.declared.Fetched.the-variants.{Found}
 use Rattle.ledger.specs.Obligations.{Takes}
 use Rattle.ledger.specs.Ledger.{fetched, refusedChange}
-use Rattle.ledger.proofs.Valid.{fetched-sound}
+use Rattle.ledger.proofs.Valid.{found-sound}
 use Rattle.refusals.specs.Calls.{deliverRefusalsIn, deliverRefusalsOf}
 use Rattle.refusals.proofs.Named.{input-refused, absent-refused, found-refused, found-done}
 use Rattle.book.specs.Instructing.{deliverChange}
@@ -29,7 +29,7 @@ unfolding deliverRefusalsOf
 takes c =
     let s = c .before .before .before .before .before .before .before .before in
     record {
-      sound = fetched-sound (s .args .ledger) (s .pre) (s .args .obligation) refl _ (finds (c .before .before .before));
+      sound = found-sound (s .args .ledger) (s .pre) (s .args .obligation) _ (finds (c .before .before .before));
       enough = ltb-false _ _ (passed 15 _ _ (sym (c .before .deliver-answer-of .ensures) ∙ c .if2 .left) refl .0);
     }
 
