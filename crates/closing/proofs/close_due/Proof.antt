@@ -11,9 +11,21 @@ use Rattle.closing.proofs.Parts.{priced-goes}
 use Rattle.closing.proofs.close_due.Statement.{statement}
 use Rattle.closing.proofs.close_due.Tie as tie
 
--- where the function begins
+-- the places of the function, each from the one behind it
 abbrev start : tie.After-keep-price → tie.Start
 start c = c .before .before .before .before .before .before
+
+abbrev priced : tie.After-give-notice-arg → tie.After-keep-price
+priced c = c .before .before .before .before .before
+
+abbrev charged : tie.After-buy-in-arg → tie.After-give-notice-arg
+charged c = c .before .before .before .before
+
+abbrev noticed : tie.After-compensate-arg → tie.After-buy-in-arg
+noticed c = c .before .before .before .before
+
+abbrev bought : tie.After-slice-known5 → tie.After-compensate-arg
+bought c = c .before .before .before
 
 -- the course that the function follows is that of the rules
 followed : (c : tie.After-keep-price) →
@@ -46,23 +58,25 @@ penalise-requires : tie.Need-penalise-requires
 penalise-requires c κs = let k = c .before in penalty-room _ _ _ _ _ _ _ (start k .args .lines .now) (room k)
 
 give-notice-requires : tie.Need-give-notice-requires
-give-notice-requires c κs = notice-room _ _ _ _ _ _ _ _ (room (c .before .before .before .before .before)) _ _ (c .before .before .before .penalise .ensures)
+give-notice-requires c κs = notice-room _ _ _ _ _ _ _ _ (room (priced c)) _ _ (c .before .before .before .penalise .ensures)
 
 buy-in-requires : tie.Need-buy-in-requires
 buy-in-requires c κs =
-    let k = c .before .before .before .before .before .before .before .before .before in (
-      (buy-in-sound _ _ _ _ _ _ _ _ (room k) _ _ (c .before .before .before .before .before .before .before .penalise .ensures) _ _ (c .before .before .before .give-notice .ensures) (sound k), start k .pre .0 .0 .priced),
-      buy-in-room _ _ _ _ _ _ _ _ (room k) _ _ (c .before .before .before .before .before .before .before .penalise .ensures) _ _ (c .before .before .before .give-notice .ensures),
+    let k = priced (charged c) in
+    let paid = charged c .before .before .before .penalise .ensures in
+    let told = c .before .before .before .give-notice .ensures in (
+      (buy-in-sound _ _ _ _ _ _ _ _ (room k) _ _ paid _ _ told (sound k), start k .pre .0 .0 .priced),
+      buy-in-room _ _ _ _ _ _ _ _ (room k) _ _ paid _ _ told,
     )
 
 compensate-requires : tie.Need-compensate-requires
 compensate-requires c κs =
-    let k = c .before .before .before .before .before .before .before .before .before .before .before .before .before in
-    let paid = c .before .before .before .before .before .before .before .before .before .before .before .penalise .ensures in
-    let told = c .before .before .before .before .before .before .before .give-notice .ensures in
-    let bought = c .before .before .before .buy-in .ensures in (
-      (compensate-sound _ _ _ _ _ _ _ _ (room k) _ _ paid _ _ told _ _ bought (sound k), start k .pre .0 .0 .end .price-most),
-      compensate-room _ _ _ _ _ _ _ _ (room k) _ _ paid _ _ told _ _ bought,
+    let k = priced (charged (noticed c)) in
+    let paid = charged (noticed c) .before .before .before .penalise .ensures in
+    let told = noticed c .before .before .before .give-notice .ensures in
+    let gave = c .before .before .before .buy-in .ensures in (
+      (compensate-sound _ _ _ _ _ _ _ _ (room k) _ _ paid _ _ told _ _ gave (sound k), start k .pre .0 .0 .end .price-most),
+      compensate-room _ _ _ _ _ _ _ _ (room k) _ _ paid _ _ told _ _ gave,
     )
 
 same-length : tie.Need-same-length
@@ -70,11 +84,11 @@ same-length c = search needs
 
 returns : tie.Need-returns
 returns c =
-    let k = c .before .before .before .before .before .before .before .before .before .before .before .before .before .before .before .before in
-    let paid = c .before .before .before .before .before .before .before .before .before .before .before .before .before .before .penalise .ensures in
-    let told = c .before .before .before .before .before .before .before .before .before .before .give-notice .ensures in
-    let bought = c .before .before .before .before .before .before .buy-in .ensures in
-    rw (sym (followed k)) (all-wrote _ _ _ _ _ _ _ _ (room k) _ _ paid _ _ told _ _ bought _ _ (c .before .before .compensate .ensures))
+    let k = priced (charged (noticed (bought c))) in
+    let paid = charged (noticed (bought c)) .before .before .before .penalise .ensures in
+    let told = noticed (bought c) .before .before .before .give-notice .ensures in
+    let gave = bought c .before .before .before .buy-in .ensures in
+    rw (sym (followed k)) (all-wrote _ _ _ _ _ _ _ _ (room k) _ _ paid _ _ told _ _ gave _ _ (c .before .before .compensate .ensures))
 
 pub close-due-spec : {M : Type 1} → statement M
 close-due-spec =
