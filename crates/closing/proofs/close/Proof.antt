@@ -31,6 +31,19 @@ abbrev μ-loop : tie.MeasureT-loop
 abbrev start : tie.At-loop Inv-loop μ-loop → tie.Start Inv-loop μ-loop
 start c = c .before .before .before .before .before
 
+-- the places of a turn with an obligation that is due, each from the one behind it
+abbrev tested : tie.Then1 Inv-loop μ-loop → tie.In-loop Inv-loop μ-loop
+tested c = c .before .before .before
+
+abbrev fined : tie.After-struct-known2 Inv-loop μ-loop → tie.Then1 Inv-loop μ-loop
+fined c = c .before .before .before .before .before
+
+abbrev moved : tie.After-close-due-arg Inv-loop μ-loop → tie.After-struct-known2 Inv-loop μ-loop
+moved c = c .before .before .before
+
+abbrev closed : tie.After-row Inv-loop μ-loop → tie.After-close-due-arg Inv-loop μ-loop
+closed c = c .before .before .before .before
+
 -- the obligation that a turn reads is still as it was
 same : (c : tie.At-loop Inv-loop μ-loop) → getD (c .loop .rows) (c .loop .i) noObligation ≡ obligationAt (start c .args .l) (c .loop .i)
 same c =
@@ -63,15 +76,15 @@ is-due-requires c κs = search needs
 
 penalty-on-requires : tie.Need-penalty-on-requires Inv-loop μ-loop
 penalty-on-requires c κs =
-    let turn = c .before .before .before .before in
+    let turn = tested c .before in
     let h = start turn .pre in
-    (rw (same turn) (h .valid .sound _ (c .before .before .before .loop-test .taken)), h .end)
+    (rw (same turn) (h .valid .sound _ (tested c .loop-test .taken)), h .end)
 
 penalty-sides-requires : tie.Need-penalty-sides-requires Inv-loop μ-loop
 penalty-sides-requires c κs = search needs
 
 slice-aggregate-transfer : tie.Need-slice-aggregate-transfer Inv-loop μ-loop
-slice-aggregate-transfer c = sym (sized (c .before .before .before .before .before .before .before))
+slice-aggregate-transfer c = sym (sized (tested (c .before .before .before) .before))
 
 cast-transfer : tie.Need-cast-transfer Inv-loop μ-loop
 cast-transfer c = search needs
@@ -81,31 +94,32 @@ cast-transfer-2 c = search needs
 
 transfer-requires : tie.Need-transfer-requires Inv-loop μ-loop
 transfer-requires c κs =
-    let turn = c .before .before .before .before .before .before .before .before .before in
+    let turn = tested (fined c) .before in
     let s = start turn in
     let h = s .pre in
     let bounded = bounded-up-to (s .args .day) (s .args .l) (h .end) (h .valid) _ (turn .loop .inv .0) (h .accounts-near) in
     let o = getD (turn .loop .rows) (turn .loop .i) noObligation in
-    let sound : Sound o = rw (same turn) (h .valid .sound _ (c .before .before .before .before .before .before .before .before .loop-test .taken)) in (
+    let sound : Sound o = rw (same turn) (h .valid .sound _ (tested (fined c) .loop-test .taken)) in (
       rw (c .before .before .before .penalty-sides .ensures, c .before .before .before .before .penalty-on .ensures) (fine-transferable (s .args .day) o _ (h .end) sound (rw (turn .loop .inv .2) bounded)),
       sized turn,
     )
 
 close-due-requires : tie.Need-close-due-requires Inv-loop μ-loop
 close-due-requires c κs =
-    let turn = c .before .before .before .before .before .before .before .before .before .before .before .before in
+    let asked = fined (moved c) in
+    let turn = tested asked .before in
     let s = start turn in
-    let more = c .before .before .before .before .before .before .before .before .before .before .before .loop-test .taken in
-    let due = sym (c .before .before .before .before .before .before .before .before .before .is-due .ensures) ∙ c .before .before .before .before .before .before .before .before .if1 .taken in (
-      (rw (same turn) (done-closes (s .args .day) (s .args .l) _ _ (s .pre) more), c .before .before .before .before .before .before .before .penalty-on .ensures),
+    let more = tested asked .loop-test .taken in
+    let due = sym (asked .before .is-due .ensures) ∙ asked .if1 .taken in (
+      (rw (same turn) (done-closes (s .args .day) (s .args .l) _ _ (s .pre) more), moved c .before .before .before .before .penalty-on .ensures),
       rw (← due-stages (s .args .day) (listedOffers (s .args .l .offers)) _ (getD (turn .loop .rows) (turn .loop .i) noObligation) due, same turn) (done-room (s .args .day) (s .args .l) _ _ _ _ _ (s .pre) more (turn .loop .inv .1)),
     )
 
 mul-rows : tie.Need-mul-rows Inv-loop μ-loop
-mul-rows c = record { fits = omega (arith, placed (c .before .before .before .before .before .before .before .before .before .before .before .before .before .before .before)) }
+mul-rows c = record { fits = omega (arith, placed (tested (fined (moved (closed c))))) }
 
 array-set-from-rows : tie.Need-array-set-from-rows Inv-loop μ-loop
-array-set-from-rows c = placed (c .before .before .before .before .before .before .before .before .before .before .before .before .before .before .before)
+array-set-from-rows c = placed (tested (fined (moved (closed c))))
 
 add-i : tie.Need-add-i Inv-loop μ-loop
 add-i c = record { fits = omega (arith, placed (c .before .before .before)) }

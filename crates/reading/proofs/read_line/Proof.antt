@@ -11,23 +11,30 @@ use Rattle.reading.proofs.Understanding.{Plain, Headed, empty-comment, 
 use Rattle.reading.proofs.read_line.Statement.{statement}
 use Rattle.reading.proofs.read_line.Tie as tie
 
+-- where the function begins, and where the first word was found
+abbrev start : tie.After-place-of → tie.Start
+start c = c .before .before .before .before .before .before .before
+
+abbrev word : tie.After-known-told → tie.After-place-of
+word c = c .before .before .before .before .before
+
 -- after its first three tests the line is known to be no comment and not too long
 plain : (c : tie.Else3) → Plain (c .before .before .before .before .before .before .args .line .now)
 plain c = record { filled = c .before .before .before .if1 .left; other = c .before .if2 .left; short = c .if3 .left }
 
 -- the line that is read
 abbrev line : tie.After-known-told → List ℕ
-line c = c .before .before .before .before .before .before .before .before .before .before .before .before .args .line .now
+line c = start (word c) .args .line .now
 
 -- the first word ends at the first space
-ends : (c : tie.After-place-of) → c .place-of .result ≡ length (firstWord (c .before .before .before .before .before .before .before .args .line .now))
-ends c = whole-word (c .before .before .before .before .before .before .before .args .line .now) _ (c .place-of .ensures)
+ends : (c : tie.After-place-of) → c .place-of .result ≡ length (firstWord (start c .args .line .now))
+ends c = whole-word (start c .args .line .now) _ (c .place-of .ensures)
 
 -- after the name was found the line is known to begin with it
-headed : (c : tie.After-known-told) → Headed (line c) (c .before .before .before .before .before .place-of .result) (c .before .name .given .0 .0) (c .before .name .given .0 .1 .0)
+headed : (c : tie.After-known-told) → Headed (line c) (word c .place-of .result) (c .before .name .given .0 .0) (c .before .name .given .0 .1 .0)
 headed c = record {
-  plain = plain (c .before .before .before .before .before .before);
-  ends = ends (c .before .before .before .before .before);
+  plain = plain (word c .before);
+  ends = ends (word c);
   names = sym (c .before .name .given .1) ∙ c .before .before .before .name-of .ensures;
 }
 
@@ -49,7 +56,7 @@ place-of-requires c κs = search needs
 slice-aggregate-name-of : tie.Need-slice-aggregate-name-of
 slice-aggregate-name-of c =
     let end = c .before in
-    word-length (end .before .before .before .before .before .before .before .args .line .now) _ (ends end)
+    word-length (start end .args .line .now) _ (ends end)
 
 name-of-requires : tie.Need-name-of-requires
 name-of-requires c κs = search needs
@@ -78,15 +85,13 @@ returns-5 c = rw (c .shaped .ensures) (alone _ _ _ _ _ (headed (c .before .befor
 add-read-numbers : tie.Need-add-read-numbers
 add-read-numbers c =
     let name = c .before in
-    let start = name .before .before .before .before .before .before .before .before .before .before .before .before in
-    let within = word-behind (start .args .line .now) _ (ends (name .before .before .before .before .before)) (c .if4 .left) in
+    let within = word-behind (line name) _ (ends (word name)) (c .if4 .left) in
     omega arith
 
 read-numbers-requires : tie.Need-read-numbers-requires
 read-numbers-requires c κs =
     let name = c .before .before in
-    let start = name .before .before .before .before .before .before .before .before .before .before .before .before in
-    word-behind (start .args .line .now) _ (ends (name .before .before .before .before .before)) (c .before .if4 .left)
+    word-behind (line name) _ (ends (word name)) (c .before .if4 .left)
 
 enum-known-count : tie.Need-enum-known-count
 enum-known-count c = search needs
@@ -102,15 +107,14 @@ returns-6 c =
     let name = c .before .before .before .before .before .before .before in
     let numbers = c .before .before .before .before .read-numbers in
     not-all _ _ _ _ _ (headed name) (c .before .before .before .before .before .before .if4 .left) _ (numbers .ensures .1)
-    (name .before .before .before .before .before .before .before .before .before .before .before .before .pre)
+    (start (word name) .pre)
     (sym (c .enum-told2 .given .1) ∙ numbers .ensures .0)
 
 shaped-requires-2 : tie.Need-shaped-requires-2
 shaped-requires-2 c κs =
     let name = c .before .before .before .before .before .before .before .before .before in
-    let start = name .before .before .before .before .before .before .before .before .before .before .before .before in
     let numbers = c .before .before .before .before .before .before .read-numbers in
-    count-within _ (start .args .numbers .now) _ _ _ (headed name)
+    count-within _ (start (word name) .args .numbers .now) _ _ _ (headed name)
     (c .before .before .before .before .before .before .before .before .if4 .left)
     _
     (numbers .ensures .1)

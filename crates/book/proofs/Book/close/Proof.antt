@@ -12,12 +12,31 @@ use Rattle.refusals.proofs.Ending.{close-refused, close-never}
 use Rattle.book.proofs.Book.close.Statement.{statement}
 use Rattle.book.proofs.Book.close.Tie as tie
 
+-- the places of the call, each from the one behind it: where it begins, where no refusal from the input holds, where the
+-- next clearing day was found, and where the ledger was closed
+abbrev start : tie.Else1 → tie.Start
+start c = c .before .before .before
+
+abbrev given : tie.After-next → tie.Else1
+given c = c .before .before .before .before .before .before
+
+abbrev found : tie.After-close → tie.After-next
+found c = c .before .before .before
+
+passes : (c : tie.Else1) → let a = start c .args in answer (closeRefusalsIn (a .price) (a .rate) (length (a .lines .now))) ≡ 0
+passes c = sym (c .before .close-answer-in .ensures) ∙ c .if1 .left
+
+next-day : (c : tie.After-next) → nextDay (start (given c) .args .self) ≡ At (c .next .given .0 .0)
+next-day c = sym (c .before .before .next-after .ensures) ∙ c .next .given .1
+
 close-answer-in-requires : tie.Need-close-answer-in-requires
 close-answer-in-requires c κs = search needs
 
 returns : tie.Need-returns
-returns c = let a = c .before .before .before .args in
-    refused-end (a .self) (c .before .before .before .pre) (a .price) (a .rate) _ (a .lines .now) (close-refused _ _ _ _ _ (sym (c .before .close-answer-in .ensures)) (c .if1 .taken)) (c .if1 .taken)
+returns c =
+    let s = c .before .before .before in
+    let a = s .args in
+    refused-end (a .self) (s .pre) (a .price) (a .rate) _ (a .lines .now) (close-refused _ _ _ _ _ (sym (c .before .close-answer-in .ensures)) (c .if1 .taken)) (c .if1 .taken)
 
 next-after-requires : tie.Need-next-after-requires
 next-after-requires c κs = search needs
@@ -29,35 +48,35 @@ enum-told : tie.Need-enum-told
 enum-told c = search needs
 
 returns-2 : tie.Need-returns-2
-returns-2 c = let a = c .before .before .before .before .before .before .before .before .before .args in
-    refused-end (a .self) (c .before .before .before .before .before .before .before .before .before .pre) (a .price) (a .rate) 20 (a .lines .now)
-    (close-never _ _ _ _ (sym (c .before .before .next-after .ensures) ∙ c .enum-told .given .1) (sym (c .before .before .before .before .before .before .before .close-answer-in .ensures) ∙ c .before .before .before .before .before .before .if1 .left))
+returns-2 c =
+    let input = c .before .before .before .before .before .before in
+    let s = start input in
+    let a = s .args in
+    refused-end (a .self) (s .pre) (a .price) (a .rate) 20 (a .lines .now)
+    (close-never _ _ _ _ (sym (c .before .before .next-after .ensures) ∙ c .enum-told .given .1) (passes input))
     (λ z. absurd (omega arith))
 
 close-requires : tie.Need-close-requires
-close-requires c κs = let a = c .before .before .before .before .before .before .before .before .before .before .before .args in
-    done-closable (a .self) (c .before .before .before .before .before .before .before .before .before .before .before .pre) (a .price) (a .rate) (a .lines .now) (sym (c .before .before .before .before .before .before .before .before .before .close-answer-in .ensures) ∙ c .before .before .before .before .before .before .before .before .if1 .left) _ (sym (c .before .before .before .before .next-after .ensures) ∙ c .before .before .next .given .1)
-
--- after the Close of the ledger: where the call began, that no refusal from the input holds, and the next clearing day
-abbrev start : tie.After-close → tie.Start
-start c = c .before .before .before .before .before .before .before .before .before .before .before .before
-
-passes : (c : tie.After-close) → let a = start c .args in answer (closeRefusalsIn (a .price) (a .rate) (length (a .lines .now))) ≡ 0
-passes c = sym (c .before .before .before .before .before .before .before .before .before .before .close-answer-in .ensures) ∙ c .before .before .before .before .before .before .before .before .before .if1 .left
-
-next-day : (c : tie.After-close) → nextDay (start c .args .self) ≡ At (c .before .before .before .next .given .0 .0)
-next-day c = sym (c .before .before .before .before .before .next-after .ensures) ∙ c .before .before .before .next .given .1
+close-requires c κs =
+    let next = c .before .before in
+    let s = start (given next) in
+    let a = s .args in
+    done-closable (a .self) (s .pre) (a .price) (a .rate) (a .lines .now) (passes (given next)) _ (next-day next)
 
 of-requires : tie.Need-of-requires
-of-requires c κs = let done = c .before .before .before in
-    done-keepable _ (start done .pre) _ _ _ (passes done) _ (next-day done) _ _ _ (done .close .ensures)
+of-requires c κs =
+    let done = c .before .before .before in
+    let next = found done in
+    done-keepable _ (start (given next) .pre) _ _ _ (passes (given next)) _ (next-day next) _ _ _ (done .close .ensures)
 
 same-length : tie.Need-same-length
 same-length c = search needs
 
 returns-3 : tie.Need-returns-3
-returns-3 c = let done = c .before .before .before .before .before in
-    done-end _ (start done .pre) _ _ _ (passes done) _ (next-day done) _ _ _ (done .close .ensures) _ (c .before .of .ensures .0)
+returns-3 c =
+    let done = c .before .before .before .before .before in
+    let next = found done in
+    done-end _ (start (given next) .pre) _ _ _ (passes (given next)) _ (next-day next) _ _ _ (done .close .ensures) _ (c .before .of .ensures .0)
 
 pub close-spec : {M : Type 1} → statement M
 close-spec =
