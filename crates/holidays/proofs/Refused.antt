@@ -15,7 +15,7 @@ use Rattle.basics.proofs.Refusals.{passed, refused-with, done-by, Refuses, outc
 use Rattle.calendar.specs.Closed.{mostClosed, closedRefused}
 use Rattle.holidays.specs.Years.{firstYear}
 use Rattle.holidays.specs.Target.{closedFrom, yearsIn, targetDays, tooFew, lastYear, mostYears, badYears, targetRefusals}
-use Rattle.holidays.specs.Target.{targetNumber, targetDone, targetRefused, target, targetWords}
+use Rattle.holidays.specs.Target.{targetAnswer, targetDone, targetRefused, target, targetWords}
 use Rattle.holidays.proofs.Rising.{closed-length, closed-taken}
 
 module _ (first last : ℕ) where
@@ -51,7 +51,7 @@ module _ (first last : ℕ) where
     pub few : yearsIn first last ≤ mostYears
     pub long : 6 * yearsIn first last ≤ words
 
-  pub target-given : (words : ℕ) → targetNumber first last words ≡ 0 → Given words
+  pub target-given : (words : ℕ) → targetAnswer first last words ≡ 0 → Given words
   unfolding targetRefusals
   target-given words e =
       let p5 = passed 5 (tooFew first last words) _ e refl in
@@ -68,7 +68,7 @@ module _ (first last : ℕ) where
       }
 
   -- ---- the answer and the words, as code has them
-  pub is-refused : (ws : List ℕ) (number : ℕ) → number ≡ targetNumber first last (length ws) → (number ≡ 0 → ⊥)
+  pub is-refused : (ws : List ℕ) (number : ℕ) → number ≡ targetAnswer first last (length ws) → (number ≡ 0 → ⊥)
       → (targetRefused number ≡ target first last (length ws)) × (ws ≡ targetWords first last ws)
   unfolding target targetWords
   is-refused ws number e z = (
@@ -76,7 +76,7 @@ module _ (first last : ℕ) where
     refused-with number (targetRefusals first last (length ws)) (atFront (targetDays first last) ws) (λ n. ws) (sym e) z,
   )
 
-  pub is-done : (ws after : List ℕ) → targetNumber first last (length ws) ≡ 0 → after ≡ atFront (closedFrom first (last - first + 1)) ws
+  pub is-done : (ws after : List ℕ) → targetAnswer first last (length ws) ≡ 0 → after ≡ atFront (closedFrom first (last - first + 1)) ws
       → (record { answer = 0; count = 6 * (last - first + 1) } ≡ target first last (length ws)) × (after ≡ targetWords first last ws)
   unfolding target targetWords targetDays
   is-done ws after e w =
@@ -90,12 +90,12 @@ module _ (first last : ℕ) where
       )
 
   -- the words that a Target that is done has counted are the closed days
-  pub days-written : (ws : List ℕ) → targetNumber first last (length ws) ≡ 0 → take (target first last (length ws) .count) (targetWords first last ws) ≡ targetDays first last
+  pub days-written : (ws : List ℕ) → targetAnswer first last (length ws) ≡ 0 → take (target first last (length ws) .count) (targetWords first last ws) ≡ targetDays first last
   unfolding target targetWords
   days-written ws e = rw e (take-append-seam (targetDays first last) (drop (length (targetDays first last)) ws))
 
   -- A Target that is done writes days that Open takes as closed days: they are not too many, and they rise.
-  pub open-takes : (words : ℕ) → targetNumber first last words ≡ 0 → closedRefused (targetDays first last) ≡ false
+  pub open-takes : (words : ℕ) → targetAnswer first last words ≡ 0 → closedRefused (targetDays first last) ≡ false
   unfolding closedRefused targetDays
   open-takes words e =
       let g = target-given words e in

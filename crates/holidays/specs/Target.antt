@@ -59,8 +59,8 @@ unfoldable pub targetRefusals : ℕ → ℕ → ℕ → List Refusal
 targetRefusals first last words = refuse 5 (tooFew first last words) ∷ refuse 23 (badYears first last) ∷ []
 
 -- A18, Refusals, of Target: its answer number, with this many words lent
-abbrev pub targetNumber : ℕ → ℕ → ℕ → ℕ
-targetNumber first last words = answer (targetRefusals first last words)
+abbrev pub targetAnswer : ℕ → ℕ → ℕ → ℕ
+targetAnswer first last words = answer (targetRefusals first last words)
 
 -- H12, Closed days: if Target is done, it returns how many days it wrote
 abbrev pub targetDone : ℕ → ℕ → DaysWritten
@@ -72,12 +72,12 @@ targetRefused n = record { answer = n; count = 0 }
 
 -- H12, Closed days: the answer of Target, with this many words lent
 unfoldable pub target : ℕ → ℕ → ℕ → DaysWritten
-target first last words = outcome (targetNumber first last words) (targetDone first last) targetRefused
+target first last words = outcome (targetAnswer first last words) (targetDone first last) targetRefused
 
 -- H12, Closed days, and A5, Refusals: every word of the lent list as it ends. If Target is done, the days stand at the
 -- front, and each word behind them is as it was.
 unfoldable pub targetWords : ℕ → ℕ → List ℕ → List ℕ
-targetWords first last ws = outcome (targetNumber first last (length ws)) (atFront (targetDays first last) ws) (λ n. ws)
+targetWords first last ws = outcome (targetAnswer first last (length ws)) (atFront (targetDays first last) ws) (λ n. ws)
 
 -- a year that Target takes; the functions that work on one year require it
 pub record Taken (y : ℕ) : Type 0 where

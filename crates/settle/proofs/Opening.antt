@@ -8,14 +8,14 @@ use Rattle.basics.specs.Lists.Every.{nobody, also}
 use Rattle.basics.proofs.Refusals.{never-given}
 use Rattle.calendar.specs.declared.Day.{Day}
 use Rattle.calendar.specs.Closed.{closedRefused}
-use Rattle.holidays.specs.Target.{targetNumber, target, targetWords}
+use Rattle.holidays.specs.Target.{targetAnswer, target, targetWords}
 use Rattle.holidays.proofs.Refused.{days-written, open-takes}
 use Rattle.book.specs.Open.{openRefusals, opened}
 use Rattle.book.proofs.Refused.{open-refuses}
 
 -- An Open with the days that an accepted Target wrote is never refused by 4, whatever the years, the first day and the
 -- terms are.
-pub days-open : (first last : ℕ) (ws : List ℕ) → targetNumber first last (length ws) ≡ 0 → (day : Day) (terms : ℕ)
+pub days-open : (first last : ℕ) (ws : List ℕ) → targetAnswer first last (length ws) ≡ 0 → (day : Day) (terms : ℕ)
     → opened day (take (target first last (length ws) .count) (targetWords first last ws)) terms .answer ≡ 4 → ⊥
 unfolding openRefusals
 days-open first last ws e day terms =
