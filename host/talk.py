@@ -1,67 +1,81 @@
 #!/usr/bin/env python3
-"""A host program that talks with settle over pipes, line by line: it asks for the edition of the rules, opens a book,
-matches two instructions, ends the day, ends the program and prints what it was told. It reads each answer before it
-sends the next line, so neither side ever waits for the other to read. Run it as `host/talk.py target/bin/settle`."""
-import subprocess
+"""A client of a book that host/keep keeps with --socket: `host/talk.py SOCKET [LINE ...]`. It sends each line as a
+call, waits for its whole answer, and prints it. Without lines on the command line it takes them from standard input. A
+back office's own program can do the same with the class Talk."""
+import socket
 import sys
+import time
 
-WORDS = 1152  # the fewest words that a Close may be lent
+WAIT = 3  # seconds for a keeper that is just starting
+LONGEST = 1 << 20  # bytes of a line that a keeper takes
 
 
-class Book:
-    """One book, held by one settle process."""
+class Talk:
+    """A connection to the keeper of a book."""
 
-    def __init__(self, program):
-        self.process = subprocess.Popen([program], stdin=subprocess.PIPE, stdout=subprocess.PIPE, text=True, bufsize=1)
-        self.sent = 0  # lines
+    def __init__(self, path):
+        limit = time.monotonic() + WAIT
+        while True:
+            self.connection = socket.socket(socket.AF_UNIX)
+            try:
+                self.connection.connect(path)
+                break
+            except OSError:
+                if limit < time.monotonic():
+                    raise
+                time.sleep(0.05)
+        self.file = self.connection.makefile("rb")
 
     def line(self):
-        """The next line of the output. A line counts only with its line feed."""
-        line = self.process.stdout.readline()
+        """The next line of an answer. A line counts only with its line feed."""
+        try:
+            line = self.file.readline().decode()
+        except ConnectionError:
+            line = ""
         if not line.endswith("\n"):
-            raise EOFError("settle has ended before its answer was whole")
+            raise EOFError("the keeper ended before the answer was whole: look for the call before you send it again")
         return line
 
-    def call(self, *words):
-        """Sends one call and returns its answer as numbers: the answer number, then the results."""
-        self.process.stdin.write(" ".join(str(word) for word in words) + "\n")
-        self.process.stdin.flush()
-        self.sent += 1
-        line = self.line()
-        if line.startswith("?"):
-            raise ValueError(f"settle took this for no call: {words}")
-        return [int(number) for number in line.split()]
+    def call(self, line):
+        """Sends one line and returns its answer as a list of lines. A comment has none. The answer to a close or an
+        again reaches to its line `kept`. One that starts with `?` or `!` is always one line: settle took it for no
+        call, or the keeper did not take it."""
+        if "\n" in line or LONGEST < len(line.encode()):
+            raise ValueError(f"this is not one line, or it is too long: {line[:40]!r}")
+        self.connection.sendall(line.encode() + b"\n")
+        if not line or line.startswith("#"):
+            return []
+        answer = [self.line()]
+        if line.split(" ")[0] in ("close", "again") and not answer[0].startswith(("?", "!")):
+            while not answer[-1].startswith("  kept"):
+                answer.append(self.line())
+        return answer
 
-    def close(self, price, rate):
-        """Ends the day and returns the answer number with the reported lines."""
-        answer, count = self.call("close", price, rate, WORDS, 0)
-        lines = [[int(word) for word in self.line().split()] for _ in range(count)]
-        self.line()  # how many words after the lines are as they were lent
-        return answer, lines
 
-    def end(self):
-        """Ends the process and returns how many lines it has played. Only the line `end` says that all of them were
-        played and answered; the exit status does not."""
-        self.process.stdin.close()
-        last = self.line()
-        self.process.wait()
-        if last != f"end {self.sent}\n":
-            raise ValueError(f"settle was sent {self.sent} lines, and its last line is: {last}")
-        return self.sent
+def lines_of(file):
+    """The lines of a text. The last one may be torn, and then it is not sent."""
+    for line in file:
+        if not line.endswith("\n"):
+            raise ValueError(f"a last line without its line feed was not sent: {line[:40]!r}")
+        yield line[:-1]
 
 
 def main():
-    book = Book(sys.argv[1])
-    print("rules", book.call("rules"))
-    print("open", book.call("open", 2, 0, 0))
-    print("enter", book.call("enter", 3, 5, 0, 10, 1000000, 2))
-    print("enter", book.call("enter", 5, 3, 1, 10, 1000000, 2))
-    answer, lines = book.close(100000, 10)
-    print("close", answer, lines)
-    print("account 5", book.call("account", 5))
-    print("status 0", book.call("status", 0))
-    print("end", book.end())
+    """The exit status is 1 if the keeper did not take a line, or if something failed."""
+    if not sys.argv[1:]:
+        sys.exit(__doc__)
+    path, *lines = sys.argv[1:]
+    talk = Talk(path)
+    status = 0
+    for line in lines or lines_of(sys.stdin):
+        answer = "".join(talk.call(line))
+        print(answer, end="", flush=True)
+        status = 1 if answer.startswith("!") else status
+    return status
 
 
 if __name__ == "__main__":
-    main()
+    try:
+        sys.exit(main())
+    except (OSError, EOFError, ValueError) as error:
+        sys.exit(f"talk.py: {error}")
