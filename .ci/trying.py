@@ -60,18 +60,41 @@ def out_of_time(_signal, _frame):
     raise TimeoutError(f"it did not end within {TEST_LIMIT} seconds")
 
 
-def try_all(name, tests, tried):
-    """Goes through all tests, and ends with status 1 if one fails."""
-    signal.signal(signal.SIGALRM, out_of_time)
-    failed = 0
+def notices(compare, *arguments):
+    """A negative control: a comparison that is given an altered answer must fail."""
+    try:
+        compare(*arguments)
+    except AssertionError:
+        return
+    raise RuntimeError(f"{compare.__name__} does not notice an altered answer")
+
+
+def failures(tests):
+    """The tests that fail, each with its error."""
+    failed = []
     for test in tests:
         try:
             signal.alarm(TEST_LIMIT)
             test()
         except Exception as error:
-            failed += 1
-            print(f"{name}: {test.__name__}: {test.__doc__}\n  {type(error).__name__}: {error}", file=sys.stderr)
+            failed.append((test, error))
     signal.alarm(0)
+    return failed
+
+
+def fails():
+    """A test that fails."""
+    same("one", 1, 2)
+
+
+def try_all(name, tests, tried):
+    """Goes through all tests, and ends with status 1 if one fails. First it sees that a test can fail."""
+    signal.signal(signal.SIGALRM, out_of_time)
+    if len(failures([fails])) != 1:
+        sys.exit(f"{name}: a test that fails is not noticed")
+    failed = failures(tests)
+    for test, error in failed:
+        print(f"{name}: {test.__name__}: {test.__doc__}\n  {type(error).__name__}: {error}", file=sys.stderr)
     if failed:
         sys.exit(1)
     print(f"{name}: {len(tests)} tests passed: {tried}", flush=True)

@@ -4,7 +4,7 @@
 use crate::book::{Line, Obligation, Offer, Terms, BOUGHT, COMPENSATED};
 use crate::hits::Played;
 
-/// An offer and what its turn gave.
+/// An offer and what it gave.
 pub struct Bid<'a> {
     pub offer: &'a Offer,
     /// Where its call stands among those of the day.
@@ -16,7 +16,7 @@ pub struct Bid<'a> {
 }
 
 impl<'a> Bid<'a> {
-    /// An offer at its place, before its turn.
+    /// An offer at its place, before it is taken.
     fn of((place, offer): (usize, &'a Offer)) -> Self {
         Bid {
             offer,
@@ -42,7 +42,7 @@ pub fn falling(number: u64) -> u64 {
     u64::MAX - number
 }
 
-/// What an offer gives in its turn: its place in the list of bids, the quantity, the cents, the cash.
+/// What an offer gives when it is taken: its place in the list of bids, the quantity, the cents, the cash.
 type Turn = (usize, u64, u64, u64);
 
 pub struct Auction<'a> {
@@ -57,7 +57,7 @@ pub struct Auction<'a> {
     pub bids: Vec<Bid<'a>>,
     /// The bought lines.
     lines: Vec<Line>,
-    /// The places of the bids in the order of their turns.
+    /// The places of the bids in the order in which they are taken.
     turns: Vec<usize>,
 }
 
@@ -176,7 +176,7 @@ impl<'a> Auction<'a> {
                 .any(|&(bid, _, cents, _)| self.bids[bid].cents != cents)
     }
 
-    /// Whether the lines would be others if two bids changed their turns.
+    /// Whether the lines would be others if two bids changed places.
     pub fn differs_if_swapped(&self, one: usize, other: usize) -> bool {
         let swapped = |&bid: &usize| match bid {
             bid if bid == one => other,
@@ -238,7 +238,7 @@ fn units(lines: &[Line]) -> u64 {
     lines.iter().map(|line| line[2]).sum()
 }
 
-/// The bought lines of offers that take their turns as they come.
+/// The bought lines of offers that are taken as they come.
 fn bought_lines<'a>(
     number: usize,
     mut obligation: Obligation,
@@ -282,7 +282,7 @@ impl<'a> Group<'a> {
         self.bid(0).offer.price
     }
 
-    /// Whether the lines would be others if the group had its turns in the reverse order.
+    /// Whether the lines would be others if the group were taken in the reverse order.
     fn shows_order(&self) -> bool {
         let mut order = self.auction.turns.clone();
         let in_group = |bid: &usize| self.places.contains(bid);

@@ -1,6 +1,6 @@
 //! The settlement discipline book of one bond.
 //!
-//! "Rules" in the comments names a chapter of the rules and an item of it, "P1", "P2" or "P4" the change
+//! "Rules" in the comments names a chapter of the rules and an item of it, "P" with a number the change
 //! request of that number. Every call tests its refusals in rising order of their numbers and changes
 //! the book only when it is accepted. The call of P3 takes no book; it is in `holidays.rs`.
 
@@ -289,7 +289,7 @@ impl Obligation {
         }
     }
 
-    /// Rules, Close: one offer's turn, which gives the quantity and the charge.
+    /// Rules, Close: takes one offer and returns the quantity and the charge.
     pub fn buy_in(&mut self, offer: &Offer) -> (u64, u64) {
         let quantity = offer.quantity.min(self.outstanding());
         let value = quantity * offer.price;
@@ -997,7 +997,7 @@ mod tests {
     }
 
     #[test]
-    fn offers_for_other_obligations_take_no_turn() {
+    fn offers_for_other_obligations_are_not_taken() {
         let mut book = book(1);
         for _ in 0..2 {
             oblige(&mut book, 10, 1_000_000, 2);
@@ -1041,7 +1041,7 @@ mod tests {
     }
 
     #[test]
-    fn the_offers_of_the_day_before_have_no_turn() {
+    fn the_offers_of_the_day_before_are_not_taken() {
         let mut book = buy_in_day(1, 1);
         offer_all(&mut book, &[(1, 101_000), (2, 101_000)]);
         assert_eq!(bought(&mut book).len(), 2);

@@ -259,6 +259,7 @@ fn main() -> ExitCode {
 #[cfg(test)]
 mod tests {
     use super::*;
+    use crate::play::EDITION;
 
     fn run_of(journal: &[u8]) -> Run<&[u8]> {
         Run::new(journal, CallSet::all())
@@ -278,9 +279,14 @@ mod tests {
     fn the_end_counts_every_line() {
         assert_eq!(answers(b""), "end 0\n");
         assert_eq!(answers(b"\n"), "end 1\n");
-        assert_eq!(answers(b"#\n\nrules\nx\n"), "0 4\n? line 4\nend 4\n");
-        assert_eq!(answers(b"rules\n#"), "0 4\nend 2\n");
-        assert_eq!(answers(b"rules\n\nx"), "0 4\n? line 3\nend 3\n");
+        let edition = format!("0 {EDITION}\n");
+        for (journal, rest) in [
+            (&b"#\n\nrules\nx\n"[..], "? line 4\nend 4\n"),
+            (b"rules\n#", "end 2\n"),
+            (b"rules\n\nx", "? line 3\nend 3\n"),
+        ] {
+            assert_eq!(answers(journal), format!("{edition}{rest}"));
+        }
     }
 
     #[test]
@@ -957,24 +963,25 @@ mod tests {
 
     #[test]
     fn the_end_is_compared() {
-        let missing = difference(b"rules\n", "0 4\n").unwrap();
+        let edition = format!("0 {EDITION}\n");
+        let missing = difference(b"rules\n", &edition).unwrap();
         assert_eq!(
             missing,
             "line 1: (the end of the journal)\nexpected: end 1\ngiven:    (nothing)\n\
             The last line of the answers is missing.\n"
         );
         assert!(difference(b"", "").unwrap().contains("is missing"));
-        assert!(difference(b"rules\n", "0 4\nend 1")
+        assert!(difference(b"rules\n", &format!("{edition}end 1"))
             .unwrap()
             .ends_with("given:    end 1 (and no line feed)\n"));
         for given in [
-            "0 4\nend 0\n",
-            "0 4\nend 2\n",
-            "0 4\nend 1\n\n",
-            "0 3\nend 1\n",
-            "end 1\n",
+            format!("{edition}end 0\n"),
+            format!("{edition}end 2\n"),
+            format!("{edition}end 1\n\n"),
+            format!("0 {}\nend 1\n", EDITION + 1),
+            "end 1\n".to_string(),
         ] {
-            assert!(difference(b"rules\n", given).is_some(), "{given:?}");
+            assert!(difference(b"rules\n", &given).is_some(), "{given:?}");
         }
     }
 
@@ -1029,7 +1036,7 @@ mod tests {
         let mut run = Run::new(Broken(b"rules\nx\nopen 9 1 0"), CallSet::all());
         let mut out = Vec::new();
         assert!(run.play_all(&mut out).is_err());
-        assert_eq!(out, b"0 4\n? line 2\n");
+        assert_eq!(out, format!("0 {EDITION}\n? line 2\n").as_bytes());
         assert_eq!(run.player.book.today, 2);
     }
 

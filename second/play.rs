@@ -4,8 +4,9 @@ use crate::book::{Book, Refusal, LINE_WORDS};
 use crate::holidays;
 use crate::journal::Call;
 
-/// The latest change request in the rules; 0 is the base.
-const EDITION: u64 = 4;
+/// The edition of the rules: the number of the latest change request in them, 0 for the base.
+/// Everything else takes it from here.
+pub const EDITION: u64 = 4;
 
 /// A book and the lists that are lent to its calls.
 pub struct Player {
@@ -317,7 +318,7 @@ mod tests {
         let mut player = player_with_a_leg();
         let (before, mut out) = (player.book.clone(), Vec::new());
         assert_eq!(player.play(Call::Rules, &mut out), 0);
-        assert_eq!(out, b"0 4\n");
+        assert_eq!(out, format!("0 {EDITION}\n").as_bytes());
         assert_eq!(player.book, before);
     }
 
@@ -372,7 +373,7 @@ mod tests {
     fn rules_may_stand_before_the_first_open() {
         assert_eq!(
             answers("rules\nenter 0 1 0 3 1000 2\nrules\n"),
-            "0 4\n0 0 0\n0 4\n"
+            format!("0 {EDITION}\n0 0 0\n0 {EDITION}\n")
         );
     }
 

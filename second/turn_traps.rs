@@ -358,7 +358,7 @@ impl Asked<'_> {
 
     // ------------------------------------------------------------ other prices
 
-    /// Whether an offer came after a dearer one of a group and yet had its turn before it. The relation is
+    /// Whether an offer came after a dearer one of a group and yet is taken before it. The relation is
     /// that of the quantities of the dearer one and the new one.
     fn is_cheaper_after(&self, relation: fn(u64, u64) -> bool) -> bool {
         let bids = &self.auction.bids;
@@ -372,7 +372,7 @@ impl Asked<'_> {
     }
 
     /// Whether an offer at another price, in the relation to that of the group, came between two of the
-    /// group and has its turn before both or after both.
+    /// group and is taken before both or after both.
     fn is_other_between(&self, relation: fn(u64, u64) -> bool) -> bool {
         let bids = &self.auction.bids;
         self.any(|group| {
@@ -486,7 +486,7 @@ impl Asked<'_> {
 
     // ------------------------------------------------------------ days
 
-    /// Whether two offers or more at the same price stood on the day before, and would have taken a turn if
+    /// Whether two offers or more at the same price were entered on the day before, and would be taken if
     /// they were still there.
     fn is_day_after(&self) -> bool {
         let of_yesterday = self.yesterday.iter();
@@ -687,7 +687,7 @@ mod tests {
             String::new(),
             at_one_price(&[12]),
             offers(0, &[(1, 5, 101_000), (2, 6, 101_001)]),
-            // Two offers that are alike, or whose turns don't come.
+            // Two offers that are alike, or that are not taken.
             offers(0, &[(1, 3, 101_000), (1, 3, 101_000)]),
             offers(0, &[(1, 5, 101_000), (2, 6, 101_000), (3, 10, 100_999)]),
             // One offer for each obligation.

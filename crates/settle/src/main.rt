@@ -134,13 +134,13 @@ fn say(text: &[u8]) -> bool {
     io::write_all(STDOUT_FILENO, text)
 }
 
-// Says what the program is, where its format is described, what it was proved with, and which edition of the rules it
-// follows. `.ci/edges` says so if the kit that is named here is not that of the toolchain at hand.
+// Says where the journal is read from, where its format is described, what the program was proved with, and which
+// edition of the rules it follows. `.ci/edges` says so if the kit that is named here is not that of the toolchain at hand.
 fn tell_about() {
     let said = say(
-        b"settle plays a journal of the settlement-discipline book of one bond: it reads\n",
+        b"settle takes no file. It reads a journal from standard input:\n    settle < FILE\n",
     )
-        && say(b"calls from standard input and writes their answers to standard output.\n")
+        && say(b"It writes the answers to standard output. With any argument it plays nothing.\n")
         && say(b"format: docs/JOURNAL.md; in the operations room: docs/OPERATIONS.md\n")
         && say(b"proved with: rattle-kit-5b-plain logic 097e4c862dff5811\n")
         && say(b"rules: edition ")
