@@ -33,7 +33,7 @@ pub drop-more : {A : Type 0} (xs : List A) (at : ℕ) (d : A) → at < length xs
 drop-more xs at d h = rw (add-one at) (drop-cons xs at d h)
 
 -- ---- from one place up to another
--- no elements lie between a place and one that is not behind it
+-- no elements lie between a place and one that is not after it
 pub between-none : (xs : List ℕ) (at to : ℕ) → to ≤ at → between at to xs ≡ []
 between-none xs at to h = let e : to - at ≡ 0 = omega arith in rw e
 

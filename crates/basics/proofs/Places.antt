@@ -14,7 +14,7 @@ set-behind : {A : Type 0} (xs ys : List A) (y v : A) → set (xs ++ y ∷ ys) (l
 set-behind [] ys y v = refl
 set-behind (x ∷ xs) ys y v = ap (λ l. x ∷ l) (set-behind xs ys y v)
 
--- storing behind the filled places fills one more
+-- storing after the filled places fills one more
 pub padded-more : {A : Type 0} (n : ℕ) (z v : A) (xs : List A) → length xs < n → set (padded n z xs) (length xs) v ≡ padded n z (xs ++ v ∷ [])
 padded-more n z v xs h =
     let e : n - length xs ≡ suc (n - suc (length xs)) = omega arith in

@@ -42,7 +42,7 @@ refused-by k rs done refused e f = rw (e, f)
 pub refused-with : {A : Type 0} (n : ℕ) (rs : List Refusal) (done : A) (refused : ℕ → A) → answer rs ≡ n → (n ≡ 0 → ⊥) → refused n ≡ outcome (answer rs) done refused
 refused-with n rs done refused e z = refused-by n rs done refused e (ne-eqb n 0 z)
 
--- a refusal that an accepted call passed: its condition does not hold, nor does any behind it
+-- a refusal that an accepted call passed: its condition does not hold, nor does any after it
 pub passed : (n : ℕ) (t : Bool) (rs : List Refusal) → answer (refuse n t ∷ rs) ≡ 0 → eqb n 0 ≡ false → (t ≡ false) × (answer rs ≡ 0)
 unfolding answer
 passed n t rs = by t
@@ -166,7 +166,7 @@ answer-number rs n p z = (
 )
 
 -- ---- refusals ahead of others
--- a list that refuses by n does so whatever stands behind it
+-- a list that refuses by n does so whatever comes after it
 pub refused-ahead : (rs more : List Refusal) (n : ℕ) → answer rs ≡ n → (n ≡ 0 → ⊥) → answer (rs ++ more) ≡ n
 unfolding answer
 refused-ahead [] more n e z = absurd (z (sym e))
@@ -176,7 +176,7 @@ refused-ahead (r ∷ rs) more n e z = by (r .holds) e (λ q. refused-ahead rs mo
     by true q f = q
     by false q f = f q
 
--- a list that refuses nothing leaves the answer to those behind it
+-- a list that refuses nothing leaves the answer to those after it
 pub passed-ahead : (rs more : List Refusal) → Every (λ r. 0 < r .number) rs → answer rs ≡ 0 → answer (rs ++ more) ≡ answer more
 unfolding answer
 passed-ahead [] more s e = refl
@@ -187,7 +187,7 @@ passed-ahead (r ∷ rs) more (also p s) e = by (r .holds) e (passed-ahead rs mor
     by true q f = absurd (omega arith)
     by false q f = f q
 
--- an accepted call passed the list ahead and those behind it
+-- an accepted call passed the list ahead and those after it
 pub ahead-passed : (rs more : List Refusal) → Every (λ r. 0 < r .number) rs → answer (rs ++ more) ≡ 0 → (answer rs ≡ 0) × (answer more ≡ 0)
 unfolding answer
 ahead-passed [] more s e = (refl, e)

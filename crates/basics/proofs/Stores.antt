@@ -7,7 +7,7 @@ use mathlib.Core.List.{List, [], _∷_, _++_}
 use lib.ListN.{length, set, take, drop, length-set}
 use lib.Seq.{sets, sets-eq, set-out, take-append-seam}
 
--- to store two lists one behind the other is to store them together
+-- to store two lists one after the other is to store them together
 pub sets-append : {A : Type 0} (l : List A) (i : ℕ) (xs ys : List A)
     → sets l i (xs ++ ys) ≡ sets (sets l i xs) (i + length xs) ys
 sets-append l i [] ys = ap (λ (n : ℕ). sets l n ys) (sym (add-zero i))
@@ -30,11 +30,11 @@ sets-cut l i (suc n) (v ∷ vs) h = sets-cut (set l i v) (suc i) n vs (omega (ar
 pub sets-front : {A : Type 0} (l vs : List A) → length vs ≤ length l → take (length vs) (sets l 0 vs) ≡ vs
 sets-front l vs h = rw (sets-eq vs l 0 (omega arith)) (take-append-seam vs (drop (0 + length vs) l))
 
--- after values are stored at the front, the list is these values and then what was behind them
+-- after values are stored at the front, the list is these values and then what was after them
 pub sets-ahead : {A : Type 0} (l vs : List A) → length vs ≤ length l → sets l 0 vs ≡ vs ++ drop (length vs) l
 sets-ahead l vs h = sets-eq vs l 0 (omega arith) ∙ ap (λ (k : ℕ). vs ++ drop k l) (zero-add (length vs))
 
--- six stores, one behind the other, store six values
+-- six stores, one after the other, store six values
 pub six-stores : (ws : List ℕ) (k u v w x y z : ℕ) →
     set (set (set (set (set (set ws k u) (k + 1) v) (k + 2) w) (k + 3) x) (k + 4) y) (k + 5) z ≡ sets ws k (u ∷ v ∷ w ∷ x ∷ y ∷ z ∷ [])
 six-stores ws k u v w x y z =

@@ -33,7 +33,7 @@ sum-most (x ∷ xs) b h =
     let g = suc-mul (length xs) b in
     omega arith
 
--- the sum from a place on is the element at that place and the sum behind it
+-- the sum from a place on is the element at that place and the sum after it
 pub rest-of : (xs : List ℕ) (i : ℕ) → i < length xs → sum (drop i xs) ≡ getD xs i 0 + sum (drop (i + 1) xs)
 unfolding total
 rest-of xs i h = rw (add-one, drop-cons xs i 0 h)

@@ -11,8 +11,8 @@ ghost use Rattle.book.specs.Book.{Valid};
 ghost use Rattle.book.specs.Close.{close, closeWords};
 
 impl Book {
-    // Charges, notices, buys in and compensates; then the offers are dropped and today is the next clearing day. The
-    // lines are kept for Again.
+    // Takes penalties, gives notices, buys in and compensates; then the offers are dropped and today is the next
+    // clearing day. The lines are kept for Again.
     pub fn close(mut self, price: u64, rate: u64, lines: &mut [u64]) -> Closed
         requires { ⌜ Valid self ⌝ }
         ensures { λ r. ⌜ r ≡ close self price rate (length (now (lines .entry))) ⌝ }

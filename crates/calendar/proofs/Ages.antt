@@ -71,7 +71,7 @@ module _ (cs : List Day) where
   unfolding ageAt
   age-next j today next h q = first-counts (j .0) (today .0) (next .0) h (next-at cs today next q .0)
 
-  -- as long as a settlement day that clears is to come, the next clearing day does not pass it, and the age there is 0
+  -- before a settlement day that is a clearing day, the next clearing day does not pass it, and the age there is 0
   pub age-to-come : (j today next : Day) → clearing cs j ≡ true → today .0 < j .0 → nextAfter cs today ≡ At next → ageAt cs j next .0 ≡ 0
   age-to-come j today next c h q =
       let f = next-at cs today next q .0 in

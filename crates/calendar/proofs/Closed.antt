@@ -57,7 +57,7 @@ module _ (closed : ClosedDays) (size : length (closed .days) ≡ mostClosed) whe
       let l = length-take (closed .count) (closed .days) in
       rw (add-one i, drop-cons (take (closed .count) (closed .days)) i (day 0) (omega arith), getD-take (closed .count) (closed .days) i (day 0) k)
 
-  -- behind the last closed day, or behind the last place, there are none
+  -- after the last closed day, or after the last place, there are none
   pub listed-end : (i : ℕ) → min (closed .count) mostClosed ≤ i → drop i (listedDays closed) ≡ []
   unfolding listedDays
   listed-end i h = drop-of-length-le (take (closed .count) (closed .days)) {i = i} (omega (arith, length-take (closed .count) (closed .days)))

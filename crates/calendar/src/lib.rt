@@ -24,7 +24,7 @@ pub enum NextDay {
     Never,
 }
 
-// The book's closed days: the first `count` places of `days`. The places behind them are free.
+// The book's closed days: the first `count` places of `days`. The places after them are free.
 pub struct ClosedDays {
     pub days: [Day; MOST_CLOSED],
     pub count: usize,

@@ -1,4 +1,4 @@
--- Laws on the course of a Close for one obligation, from its penalty to its compensation: each part is written behind
+-- Laws on the course of a Close for one obligation, from its penalty to its compensation: each part is written after
 -- those before it, and what it requires holds after them.
 use Prim.Native.Nat.{ℕ}
 use mathlib.Core.Path.{_≡_, _∙_}

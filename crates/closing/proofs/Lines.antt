@@ -27,7 +27,7 @@ flat-length [] = refl
 flat-length (l ∷ ls) = omega (arith, flat-length ls)
 
 -- ---- lines that are read from a list
--- the lines behind the first are those of the list behind its first six words
+-- the lines after the first are those of the list after its first six words
 line-next : (l : Line) (ws : List ℕ) (i : ℕ) → lineAt (wordsOf l ++ ws) (suc i) ≡ lineAt ws i
 line-next l ws i =
     let e0 : wordsInLine * suc i ≡ suc (suc (suc (suc (suc (suc (wordsInLine * i)))))) = omega arith in
@@ -47,7 +47,7 @@ unfolding flat linesRead tableFrom
 flat-back [] ws = refl
 flat-back (l ∷ ls) ws = read-more l (length ls) (flat ls ++ ws) ∙ ap (λ (ms : List Line). l ∷ ms) (flat-back ls ws)
 
--- lines written at the front of a list are read back, whatever stands behind them
+-- lines written at the front of a list are read back, whatever comes after them
 pub lines-back : (ls : List Line) (ws : List ℕ) → linesRead (length ls) (written ls ws) ≡ ls
 unfolding written
 lines-back ls ws = flat-back ls (drop (length (flat ls)) ws)
@@ -57,7 +57,7 @@ pub written-fits : (ls : List Line) (ws : List ℕ) → wordsInLine * length ls 
 unfolding written
 written-fits ls ws = omega (arith, length-append (flat ls) (drop (length (flat ls)) ws), flat-length ls)
 
--- their words are the first words of the list, and the words behind them are as they were
+-- their words are the first words of the list, and the words after them are as they were
 pub written-front : (ls : List Line) (ws : List ℕ) → take (wordsInLine * length ls) (written ls ws) ≡ flat ls
 unfolding written
 written-front ls ws = rw (← flat-length ls) (take-append-seam (flat ls) (drop (length (flat ls)) ws))
@@ -87,7 +87,7 @@ read-words (suc k) (a ∷ b ∷ c ∷ d ∷ []) h = absurd (omega arith)
 read-words (suc k) (a ∷ b ∷ c ∷ d ∷ e ∷ []) h = absurd (omega arith)
 
 -- ---- lines that are written
--- to write lines behind other lines is to write them together
+-- to write lines after other lines is to write them together
 pub flat-stores : (ws : List ℕ) (count : ℕ) (ls ms : List Line) →
     sets (sets ws (wordsInLine * count) (flat ls)) (wordsInLine * (count + length ls)) (flat ms) ≡ sets ws (wordsInLine * count) (flat (ls ++ ms))
 flat-stores ws count ls ms =

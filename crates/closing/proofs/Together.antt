@@ -76,7 +76,7 @@ module _ (d : DayEnd) (os : List Obligation) where
       below : k < suc n → (k ≡ n → ⊥) → k < n
       below a b = omega arith
 
-  -- each row behind the first n is as it was
+  -- each row after the first n is as it was
   pub rows-behind : (offers : List Offer) (n k : ℕ) → n ≤ k → getD (rowsUpTo d offers os n) k noObligation ≡ getD os k noObligation
   unfolding rowsUpTo
   rows-behind offers zero k h = refl
@@ -138,7 +138,7 @@ module _ (d : DayEnd) (offers : List Offer) (os : List Obligation) (n : ℕ) (ne
         words = rw (same, append-nil ls) (s .words);
       })
 
-  -- the lines are at the front, and the words behind them are as they were
+  -- the lines are at the front, and the words after them are as they were
   pub done-all : wordsInLine * length ls ≤ length ws → ClosedAs (rowsUpTo d offers os n) ls next count ws ws'
   unfolding written
   done-all h = record {

@@ -85,7 +85,7 @@ fn plain_line(kind: u64, number: u64, quantity: u64, cents: u64) -> Line
     }
 }
 
-// Writes a line behind the count lines that are there.
+// Writes a line after the count lines that are there.
 pub fn put_line(lines: &mut [u64], count: usize, line: Line)
     requires { ⌜ wordsInLine * (count + 1) ≤ length (now lines) ⌝ }
     ensures { λ _. ⌜ now (lines .exit) ≡ sets (now (lines .entry)) (wordsInLine * count) (wordsOf line) ⌝ }

@@ -175,7 +175,7 @@ fn charges() -> u64
         + compared(10, amounts::charge_for(5, 101_000, second), 5_000)
 }
 
-// Example 13: the closed days of 2000, and a word behind them.
+// Example 13: the closed days of 2000, and a word after them.
 fn closed_days() -> u64
     ensures { λ r. ⌜ r ≡ 0 ⌝ }
 {

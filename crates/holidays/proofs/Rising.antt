@@ -52,7 +52,7 @@ climbs-later (up d l c) = also l (every-map (λ (x : ℕ) (n : d + 1 ≤ x). les
     less : {a b x : ℕ} → b + 1 ≤ x → a ≤ b → a ≤ x
     less n l = omega arith
 
--- each of them is below every day that comes behind it
+-- each of them is below every day that comes after it
 climbs-sorted : {k m : ℕ} {ds : List ℕ} → Climbs k ds m → Sorted (λ d e. d < e) ds
 climbs-sorted (ended l) = empty
 climbs-sorted (up d l c) = ahead {x = d} (every-map (λ (x : ℕ) (n : d + 1 ≤ x). omega arith) (climbs-later c)) (climbs-sorted c)
@@ -113,7 +113,7 @@ unfolding closedFrom
 closed-length y zero = refl
 closed-length y (suc n) = omega (arith, length-append (closedInYear y) (closedFrom (y + 1) n), six-days y, closed-length (y + 1) n)
 
--- with one year more, its closed days come behind those of the others
+-- with one year more, its closed days come after those of the others
 pub closed-more : (y n : ℕ) → closedFrom y (suc n) ≡ closedFrom y n ++ closedInYear (y + n)
 unfolding closedFrom
 closed-more y zero = append-nil (closedInYear y) ∙ ap closedInYear (sym (add-zero y))

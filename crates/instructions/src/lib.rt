@@ -9,7 +9,7 @@ ghost use Rattle.instructions.specs.Entry.{entryOf, withEntry, Enterable
 // The most legs of a book; `mostLegs` in specs/.
 pub const MOST_LEGS: usize = 128;
 
-// What has become of a leg. A matched leg names its obligation. Withdrawn stands first, because a place that no leg has
+// What has become of a leg. A matched leg names its obligation. Withdrawn comes first, because a place that no leg has
 // taken holds it.
 pub enum LegState {
     Withdrawn,

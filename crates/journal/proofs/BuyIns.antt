@@ -1,4 +1,4 @@
--- At every accepted Close the offers give in their turns: `known-bought` at the end.
+-- At every accepted Close the offers are taken in their order: `known-bought` at the end.
 use Prim.Native.Nat.{ℕ}
 use native.Mathlib.Omega.{arith}
 use mathlib.Core.Path.{_≡_, refl, sym, ap, ap₂, subst⁻¹, _∙_}

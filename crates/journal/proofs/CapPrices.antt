@@ -48,7 +48,7 @@ module _ (o : Opening) (b : Book) (es : List Event) (e : Event) (g : Agrees o b 
   grace-some : 0 < termsIn o .grace .0
   grace-some = omega (arith, g .valid .setup .terms .notice-before, ap (λ (s : Setup). s .terms .grace .0) (g .setup))
 
-  -- the settlement day of an instruction clears
+  -- the settlement day of an instruction is a clearing day
   day-clears : (n : ℕ) (i : Instructed) → instructedIn n es ≡ some i → clearing cs (i .day) ≡ true
   day-clears n i q =
       let h = told-held o b es g n i q in

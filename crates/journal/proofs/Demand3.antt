@@ -134,7 +134,7 @@ pub record Promise (s : Run) : Type 1 where
   pub months : EveryMonth (s .past)
   -- J17: after the list, a Month that is given what each member owes by the events ends as an empty one does
   pub typed-or-empty : SameAsEmpty (s .book) (debtsIn (s .past))
-  -- C7 and C8: at each accepted Close the offers for each obligation in its buy-in days give in their turns
+  -- C7 and C8: at each accepted Close the offers for each obligation in its buy-in days are taken in their order
   pub buy-ins : EveryBuyIn (s .opening) (s .past)
   -- B9: every obligation whose age is above grace has had its Close at age = grace, which left a price for the cap
   pub cap-prices : EveryCapPrice (s .opening) (s .past)

@@ -41,7 +41,7 @@ use Rattle.journal.proofs.Rows.{rows-same}
 abbrev pub NewAmounts : Book → Book → LegChange → Type 0
 NewAmounts b after c = (n : ℕ) → b .ledger .count ≤ n → n < after .ledger .count → amountBy n c (entered (b .legs)) ≡ some (obligationAt (after .ledger) n .deal .amount)
 
--- what a call leaves of what a book stores: b is the book before it, after the book behind it, f what its event says
+-- what a call leaves of what a book stores: b is the book before it, `after` the book after it, f what its event says
 pub record Leaves (b after : Book) (f : Facts) : Type 0 where
   pub close-since : after .day .«close_since» ≡ pick (isEnd (f .ends)) true (pick (isMonth (f .collects)) false (b .day .«close_since»))
   pub has-closed : after .day .«has_closed» ≡ pick (isEnd (f .ends)) true (b .day .«has_closed»)

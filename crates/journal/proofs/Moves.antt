@@ -74,7 +74,7 @@ held-as b n i e = by (ltb n (b .ledger .count)) refl e
 abbrev pub Stands : Book → ℕ → Type 0
 Stands b n = n < b .ledger .count → 0 < obligationAt (b .ledger) n .parts .outstanding
 
--- ---- what a call moves: b is the book before it, after the book behind it, f what its event says
+-- ---- what a call moves: b is the book before it, `after` the book after it, f what its event says
 pub record Moves (b after : Book) (f : Facts) : Type 0 where
   pub valid : Valid after
   pub setup : after .setup ≡ b .setup

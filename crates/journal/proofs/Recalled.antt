@@ -56,7 +56,7 @@ pub record Remembered (s : Run) : Type 0 where
   -- B9, Buy-in: where the age is above grace as well, this price is there: it is at least 1
   pub cap-price : (n : ℕ) → n < s .book .ledger .count → 0 < obligationAt (s .book .ledger) n .parts .outstanding →
       s .book .setup .terms .grace .0 < ageOf (s .book) (obligationAt (s .book .ledger) n) → 1 ≤ obligationAt (s .book .ledger) n .stage .«grace_price»
-  -- B5 and C7, Buy-in and Close: the offers of today, in the order of their turns
+  -- B5 and C7, Buy-in and Close: the offers of today, in the order in which they are taken
   pub offers : listedOffers (s .book .ledger .offers) ≡ ranked (offersIn (s .past))
   pub in-order : InOrder (offersIn (s .past)) (listedOffers (s .book .ledger .offers))
   -- K1 and K4, Cancel: the wishes of the seller and of the buyer

@@ -212,7 +212,7 @@ module _ (d : DayEnd) (offers : List Offer) (n : ℕ) (o : Obligation) where
 
 -- ---- all obligations
 module _ (d : DayEnd) (offers : List Offer) (os : List Obligation) where
-  -- of all lines, none is of an obligation that is behind them
+  -- of all lines, none is of an obligation that is after them
   own-behind : (n k : ℕ) → n ≤ k → own k (linesUpTo d offers os n) ≡ []
   unfolding linesUpTo
   own-behind zero k h = refl

@@ -15,7 +15,7 @@ use Rattle.offers.specs.declared.Offer.{Offer}
 use Rattle.offers.specs.Rank.{overtakes, insertedBy, inserted}
 use Rattle.offers.specs.Held.{mostOffers, noOffer}
 
--- What is to come behind the rows that were passed: once a row has moved, x and then the rest; before that, the rest
+-- What is to come after the rows that were passed: once a row has moved, x and then the rest; before that, the rest
 -- with x inserted.
 unfoldable pub settled : Bool → Offer → List Offer → List Offer
 settled moved x ys = pick moved (x ∷ ys) (inserted x ys)
@@ -101,7 +101,7 @@ module _ (from : List Offer) (n : ℕ) (o : Offer) (room : n < mostOffers) (s : 
         (ap (set rows k) ey ∙ set-getD rows k noOffer)
         (carried-step y x m (settled-stays m x y (slice (suc k) n from) e))
 
-  -- after all rows, the place behind them takes x
+  -- after all rows, the place after them takes x
   pub carried-ends : (rows : List Offer) (x : Offer) (m : Bool) (k : ℕ) → Carried from n o rows x m k → n ≤ k
       → set rows n x ≡ inserted o (take n from) ++ drop (n + 1) from
   carried-ends rows x m k c h =

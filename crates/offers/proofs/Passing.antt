@@ -1,4 +1,4 @@
--- Laws on the loop of a buy-in. One offer after another gives, and what it gives is put behind what the others gave.
+-- Laws on the loop of a buy-in. One offer after another gives, and what it gives is put after what the others gave.
 use Prim.Native.Nat.{ℕ, suc, _+_, _-_, _≤_, _<_, min}
 use native.Mathlib.Omega.{arith}
 use native.Mathlib.Numerals.{add-one}

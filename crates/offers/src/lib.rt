@@ -61,7 +61,7 @@ fn goes_ahead(later: Offer, earlier: Offer) -> bool
 }
 
 // Says whether a row makes way for the offer that is carried along the rows. Once one row has made way, every row
-// behind it does.
+// after it does.
 fn makes_way(moved: bool, carried: Offer, row: Offer) -> bool
     ensures { λ r. ⌜ r ≡ (moved || overtakes carried row) ⌝ }
 {
@@ -90,7 +90,7 @@ impl Offers {
         }
     }
 
-    // Adds an offer ahead of the first one that it overtakes, or behind all of them if it overtakes none. The new offer
+    // Adds an offer ahead of the first one that it overtakes, or after all of them if it overtakes none. The new offer
     // is carried along the rows to its place. From there on, each row takes the offer that was ahead of it.
     pub fn insert(self, o: Offer) -> Offers
         requires { ⌜ self .count < mostOffers ⌝ }

@@ -28,7 +28,7 @@ kept-back ls =
 pub kept-valid : (ls : List Line) → length ls ≤ mostLines → ValidLast (keptFrom ls)
 kept-valid ls h = record { size = padded-length mostLines noLine (map keptLine ls) (omega (arith, length-map ls keptLine)); few = h }
 
--- with one line more stored behind them
+-- with one line more stored after them
 pub kept-more : (ws : List ℕ) (i : ℕ) (rows : List KeptLine) → i < mostLines → rows ≡ padded mostLines noLine (map keptLine (linesRead i ws)) →
     set rows i (keptLine (lineAt ws i)) ≡ padded mostLines noLine (map keptLine (linesRead (i + 1) ws))
 unfolding linesRead
@@ -50,7 +50,7 @@ front i rows = map lineOf (take i rows)
 front-length : (i : ℕ) (rows : List KeptLine) → i ≤ length rows → length (front i rows) ≡ i
 front-length i rows h = length-map (take i rows) lineOf ∙ length-take-le i rows h
 
--- with one line more written behind them
+-- with one line more written after them
 pub wrote-more : (rows : List KeptLine) (i : ℕ) (ws us vs : List ℕ) → i < length rows → us ≡ sets ws 0 (flat (front i rows)) →
     vs ≡ sets us (wordsInLine * i) (wordsOf (lineOf (getD rows i noLine))) → vs ≡ sets ws 0 (flat (front (i + 1) rows))
 unfolding flat
@@ -65,7 +65,7 @@ wrote-more rows i ws us vs h e f =
     ∙ flat-stores ws 0 (front i rows) (l ∷ [])
     ∙ ap (λ (ls : List Line). sets ws 0 (flat ls)) (sym more)
 
--- the lines are at the front, and the words behind them are as they were
+-- the lines are at the front, and the words after them are as they were
 pub wrote-all : (k : LastClose) (ws us : List ℕ) → ValidLast k → fewestWords ≤ length ws → us ≡ sets ws 0 (flat (linesKept k)) → us ≡ written (linesKept k) ws
 unfolding written
 wrote-all k ws us v h e =

@@ -99,7 +99,7 @@ impl LastClose {
         }
     }
 
-    // Writes the lines to the front of a list of words. Each word behind them stays as it was.
+    // Writes the lines to the front of a list of words. Each word after them stays as it was.
     pub fn write(self, lines: &mut [u64])
         requires { ⌜ (ValidLast self) × (fewestWords ≤ length (now lines)) ⌝ }
         ensures { λ _. ⌜ now (lines .exit) ≡ written (linesKept self) (now (lines .entry)) ⌝ }

@@ -27,7 +27,7 @@ module _ (n value : ℕ) (words filled : List ℕ) (is : filled ≡ replicate n 
   filled-length = ap length filled-front ∙ length-replicate n value
 
   -- A call was made with the words that were filled. It is told as the same call with the words of its line, and the words
-  -- behind those that it was lent are as they were.
+  -- after those that it was lent are as they were.
   pub as-lent : {R T : Type 0} (call : List ℕ → R) (left : List ℕ → List ℕ) (told : R → T) (r : R) (us : List ℕ) {t : T}
       → r ≡ call (take n filled) → us ≡ left (take n filled) → t ≡ told r
       → (t ≡ told (call (replicate n value))) × (us ++ drop n filled ≡ left (replicate n value) ++ drop n words)

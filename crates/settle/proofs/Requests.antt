@@ -1,5 +1,5 @@
--- What a line asks for depends only on what it says. The numbers that earlier lines left in the buffer behind those of the
--- line do not matter.
+-- What a line asks for depends only on what it says. The numbers that earlier lines left in the buffer after those of
+-- the line do not matter.
 use Prim.Native.Nat.{ℕ, _+_, _-_, _≤_, _<_}
 use native.Mathlib.Omega.{arith}
 use mathlib.Core.Path.{_≡_, refl, subst, ap, _∙_}

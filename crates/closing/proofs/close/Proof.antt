@@ -31,7 +31,7 @@ abbrev μ-loop : tie.MeasureT-loop
 abbrev start : tie.At-loop Inv-loop μ-loop → tie.Start Inv-loop μ-loop
 start c = c .before .before .before .before .before
 
--- the places of a turn with an obligation that is due, each from the one behind it
+-- the places of a turn with an obligation that is due, each from the one after it
 abbrev tested : tie.Then1 Inv-loop μ-loop → tie.In-loop Inv-loop μ-loop
 tested c = c .before .before .before
 

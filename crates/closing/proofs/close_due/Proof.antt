@@ -11,7 +11,7 @@ use Rattle.closing.proofs.Parts.{priced-goes}
 use Rattle.closing.proofs.close_due.Statement.{statement}
 use Rattle.closing.proofs.close_due.Tie as tie
 
--- the places of the function, each from the one behind it
+-- the places of the function, each from the one after it
 abbrev start : tie.After-keep-price → tie.Start
 start c = c .before .before .before .before .before .before
 

@@ -14,7 +14,7 @@ use Rattle.payments.specs.Month.{badAmounts, badLists, overCollected, mo
 use Rattle.payments.proofs.settle_month.Statement.{statement}
 use Rattle.payments.proofs.settle_month.Tie as tie
 
--- the places behind the tests of 5, 19 and 21, each from the one behind it
+-- the places after the tests of 5, 19 and 21, each from the one after it
 abbrev start : tie.Else1 → tie.Start
 start c = c .before .before .before .before
 

@@ -12,7 +12,7 @@ use Rattle.refusals.proofs.Ending.{close-refused, close-never}
 use Rattle.book.proofs.Book.close.Statement.{statement}
 use Rattle.book.proofs.Book.close.Tie as tie
 
--- the places of the call, each from the one behind it: where it begins, where no refusal from the input holds, where the
+-- the places of the call, each from the one after it: where it begins, where no refusal from the input holds, where the
 -- next clearing day was found, and where the ledger was closed
 abbrev start : tie.Else1 → tie.Start
 start c = c .before .before .before
