@@ -7,8 +7,8 @@ use lib.Seq.{sets}
 use Rattle.writing.specs.Digits.{digitsOf}
 use Rattle.writing.specs.Words.{joined}
 
--- Bytes are written at a place of the output. They stand there, every other byte is as it was, and the next place is
--- the one after them.
+-- Bytes were written at a place of the output. They are there, every other byte is as it was, and the next place is the
+-- one after them.
 pub record Wrote (bytes out : List ℕ) (at : ℕ) (after : List ℕ) (next : ℕ) : Type 0 where
   pub stands : after ≡ sets out at bytes
   pub place : next ≡ at + length bytes
@@ -17,11 +17,11 @@ pub record Wrote (bytes out : List ℕ) (at : ℕ) (after : List ℕ) (next : �
 abbrev pub lineFeed : ℕ
 lineFeed = 10
 
--- numbers, with one space between two
+-- the text of numbers, with one space between two
 unfoldable pub textOf : List ℕ → List ℕ
 textOf ns = joined (map digitsOf ns)
 
--- an answer: its numbers, and a line feed
+-- the text of an answer: its numbers, and a line feed
 unfoldable pub answerOf : List ℕ → List ℕ
 answerOf ns = textOf ns ++ lineFeed ∷ []
 
