@@ -11,8 +11,8 @@ use Rattle.book.specs.declared.Closed.{Closed}
 use Rattle.book.specs as rules
 use Rattle.journal.specs.Calls.{Opening, Call, Event, Run}
 
--- O8, Open: what comes of a call on a book: the answer number, the results, the words of the list that it fills and of
--- the list that it only reads, and the book
+-- O8, Open: what comes of a call on a book: the answer number, which is 0 if the call was done, the results, the words
+-- of the list that it fills and of the list that it only reads, and the book
 pub record Outcome : Type 0 where
   pub answer : ℕ
   pub results : List ℕ
