@@ -31,12 +31,13 @@ mostRate = 100
 abbrev pub mostPenalty : ℕ
 mostPenalty = 1500000
 
--- D11, Days and units: q units at price p are worth q × p cents
+-- D9 to D11, Days and units: q units at price p are worth q × p cents. A unit is 1,000 euro of nominal, and a price is
+-- a number of thousandths of a percent.
 unfoldable pub value : ℕ → ℕ → ℕ
 value q p = q * p
 
--- C4, Close: the penalty on q units at a price; the rate is in millionths of their value (D12), and the penalty is
--- rounded to the nearest cent
+-- D12, Days and units; C4, Close: the penalty on q units at a price. The rate is in millionths of their value, and the
+-- penalty is rounded to the nearest cent.
 unfoldable pub penalty : ℕ → ℕ → ℕ → ℕ
 penalty q price rate = rounded (value q price * rate) 1000000
 
@@ -63,7 +64,8 @@ cashOfEach a q s (n ∷ ns) = cash a q s (s + n) ∷ cashOfEach a q (s + n) ns
 unfoldable pub charge : ℕ → ℕ → ℕ → ℕ
 charge q price cashFor = value q price - cashFor
 
--- E6, Enter: the tolerance, by the delivering amount (003, article 6)
+-- E6, Enter: the tolerance is 200 cents for a delivering amount up to 10,000,000, and 2,500 cents for a larger one
+-- (003, article 6)
 unfoldable pub tolerance : ℕ → ℕ
 tolerance delivering = pick (leb delivering 10000000) 200 2500
 

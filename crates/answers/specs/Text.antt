@@ -24,8 +24,8 @@ mostAnswer = 22 * mostLent + 100
 abbrev pub mostNumbered : ℕ
 mostNumbered = 21 * mostShown + 1
 
--- An answer can be written: it shows at most as many numbers as there may be, at most 4,096 words were lent, and its lines stand within
--- these words.
+-- An answer can be written: it shows at most as many numbers as there may be, at most 4,096 words were lent, and its
+-- lines are within these words.
 pub record Tellable (a : Answer) (words : List ℕ) : Type 0 where
   pub few : a .count ≤ mostShown
   pub whole : length (a .numbers) ≡ mostShown
@@ -33,40 +33,42 @@ pub record Tellable (a : Answer) (words : List ℕ) : Type 0 where
   pub within : a .lent ≤ length words
   pub lines : 6 * a .lines ≤ a .lent
 
--- the numbers that are shown, and a line feed
+-- the text of an answer of numbers: those that are shown, and a line feed
 unfoldable pub numbersText : Answer → List ℕ
 numbersText a = answerOf (take (a .count) (a .numbers))
 
--- the answer number, signed cents, and a line feed
+-- the text of the answer to an Account: the answer number, signed cents, and a line feed
 unfoldable pub balanceText : Answer → List ℕ
 balanceText a = digitsOf (getD (a .numbers) 0 0) ++ space ∷ signedOf (a .cents) ++ lineFeed ∷ []
 
--- a line of a Close or an Again: two spaces, six words, and a line feed
+-- the text of a line of a Close or an Again: two spaces, six words, and a line feed
 unfoldable pub sixText : List ℕ → List ℕ
 sixText six = space ∷ space ∷ answerOf six
 
--- the first lines of a Close or an Again, by their number
+-- the text of the first k lines of a Close or an Again
 unfoldable pub linesText : List ℕ → ℕ → List ℕ
 linesText words zero = []
 linesText words (suc k) = linesText words k ++ sixText (take 6 (drop (6 * k) words))
 
--- how many words still have the value that they were filled with
+-- how many words still have the value with which they were filled
 unfoldable pub keptOf : ℕ → List ℕ → ℕ
 keptOf fill [] = 0
 keptOf fill (w ∷ ws) = pick (eqb w fill) 1 0 + keptOf fill ws
 
--- how many words are kept: two spaces, the word kept, and the number
+-- the text of how many words are kept: two spaces, the word kept, and the number
 unfoldable pub keptText : ℕ → List ℕ
 keptText n = labelled (space ∷ space ∷ 107 ∷ 101 ∷ 112 ∷ 116 ∷ space ∷ []) n
 
--- the answer to a Close or an Again: answer number and number of lines, the lines, and how many words after them are kept
+-- the text of the answer to a Close or an Again: answer number and number of lines, the lines, and how many words after
+-- them are kept
 unfoldable pub closedText : Answer → List ℕ → List ℕ
 closedText a words =
     numbersText a
     ++ linesText words (a .lines)
     ++ keptText (keptOf (a .fill) (drop (6 * a .lines) (take (a .lent) words)))
 
--- the answer to a Month or a Target: the numbers that are shown, and on the same line the words that were lent
+-- the text of the answer to a Month or a Target: the numbers that are shown, and on the same line the words that were
+-- lent
 unfoldable pub wordsText : Answer → List ℕ → List ℕ
 wordsText a words =
     textOf (take (a .count) (a .numbers)) ++ spaced (map digitsOf (take (a .lent) words)) ++ lineFeed ∷ []

@@ -11,7 +11,7 @@ use Rattle.answers.specs.declared.Answer.{Answer}
 abbrev pub mostShown : ℕ
 mostShown = 7
 
--- An answer by its parts. The numbers that it shows stand in the first of its places, and the others hold 0.
+-- An answer by its parts. The numbers that it shows are in the first of its places, and the others hold 0.
 abbrev toldWith : Form → List ℕ → ℤ → ℕ → ℕ → ℕ → Answer
 toldWith form shown cents lines lent fill = record {
   form = form;
@@ -35,7 +35,7 @@ nothing = told Form.Nothing []
 unfoldable pub noCall : Answer
 noCall = told Form.NoCall []
 
--- an answer number and results
+-- an answer of numbers: an answer number and results
 unfoldable pub numbersTold : List ℕ → Answer
 numbersTold shown = told Form.Numbers shown
 
@@ -43,8 +43,8 @@ numbersTold shown = told Form.Numbers shown
 unfoldable pub balanceTold : ℕ → ℤ → Answer
 balanceTold answer cents = toldWith Form.Balance (answer ∷ []) cents 0 0 0
 
--- the answer to a Close or an Again: an answer number, how many lines there are, how many words were lent, and with what
--- value they were filled
+-- the answer to a Close or an Again: an answer number, how many lines there are, how many words were lent, and the
+-- value with which they were filled
 unfoldable pub closedTold : ℕ → ℕ → ℕ → ℕ → Answer
 closedTold answer lines lent fill = toldWith Form.Closed (answer ∷ lines ∷ []) (pos 0) lines lent fill
 

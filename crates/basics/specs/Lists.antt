@@ -6,7 +6,7 @@ use lib.Dec.{eqb}
 use lib.ListN.{length, take, drop, replicate}
 use Rattle.basics.specs.Choice.{pick}
 
--- f gives a number for each element; this is the sum of these numbers
+-- the sum of the numbers that f gives for the elements of a list
 unfoldable pub total : {A : Type 0} → (A → ℕ) → List A → ℕ
 total f [] = 0
 total f (x ∷ xs) = f x + total f xs
@@ -24,34 +24,34 @@ tableFrom k (suc n) f = f k ∷ tableFrom (suc k) n f
 abbrev pub table : {A : Type 0} → ℕ → (ℕ → A) → List A
 table = tableFrom 0
 
--- how many of the numbers below n pass the test
+-- how many of the numbers below n pass a test; the rank of a claim is counted by it
 unfoldable pub countBelow : ℕ → (ℕ → Bool) → ℕ
 countBelow zero p = 0
 countBelow (suc n) p = pick (p n) (countBelow n p + 1) (countBelow n p)
 
--- P holds of every element
+-- P holds of every element of a list
 pub data Every {A : Type 0} (P : A → Type 0) : List A → Type 0 where
   nobody : Every P []
   also : {x : A} {xs : List A} → P x → Every P xs → Every P (x ∷ xs)
 
--- R holds of every two elements, the one ahead and the one behind it
+-- R holds of every two elements of a list, the earlier one and the later one
 pub data Sorted {A : Type 0} (R : A → A → Type 0) : List A → Type 0 where
   empty : Sorted R []
   ahead : {x : A} {xs : List A} → Every (R x) xs → Sorted R xs → Sorted R (x ∷ xs)
 
--- a list in the front of n places; each place behind it holds z
+-- a list in the first of n places, as an array holds it; each place after it holds z
 abbrev pub padded : {A : Type 0} → ℕ → A → List A → List A
 padded n z xs = xs ++ replicate (n - length xs) z
 
--- a list stands at the front of another one; each element behind it is as it was
+-- a list at the front of another one, as lines are in a lent list; each element after it stays as it was
 abbrev pub atFront : {A : Type 0} → List A → List A → List A
 atFront xs ys = xs ++ drop (length xs) ys
 
--- the elements from one place up to another
+-- the elements of a list from one place up to another
 abbrev pub between : ℕ → ℕ → List ℕ → List ℕ
 between from to xs = take (to - from) (drop from xs)
 
--- the elements up to the first that is x
+-- the elements of a list before the first that is x
 unfoldable pub upTo : ℕ → List ℕ → List ℕ
 upTo x [] = []
 upTo x (y ∷ ys) = pick (eqb y x) [] (y ∷ upTo x ys)

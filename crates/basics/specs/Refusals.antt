@@ -10,7 +10,7 @@ pub record Refusal : Type 0 where
   pub number : ℕ
   pub holds : Bool
 
--- a condition under its number
+-- a refusal from its number and its condition
 abbrev pub refuse : ℕ → Bool → Refusal
 refuse n t = record { number = n; holds = t }
 
@@ -19,7 +19,8 @@ unfoldable pub answer : List Refusal → ℕ
 answer [] = 0
 answer (r ∷ rs) = pick (r .holds) (r .number) (answer rs)
 
--- A1, Refusals: a call with this answer number is done if the number is 0, and refused by the number otherwise
+-- G1, Promises; A1, Refusals: a call with this answer number is done if the number is 0, and refused by the number
+-- otherwise
 abbrev pub outcome : {A : Type 0} → ℕ → A → (ℕ → A) → A
 outcome n done refused = pick (eqb n 0) done (refused n)
 

@@ -40,7 +40,7 @@ withLast last b = record { setup = b .setup; day = b .day; legs = b .legs; ledge
 abbrev pub closedOf : Book → List Day
 closedOf b = listedDays (b .setup .«closed_days»)
 
--- the day that it is
+-- the book's today
 abbrev pub todayOf : Book → Day
 todayOf b = b .day .today
 
@@ -48,13 +48,14 @@ todayOf b = b .day .today
 unfoldable pub ageOf : Book → Obligation → ℕ
 ageOf b o = ageBy (b .setup) (todayOf b) o
 
--- what holds of the day of every book with these closed days
+-- O9, Open: what holds of the day of every book with these closed days: it is a clearing day, and it is not above
+-- 65,535
 pub record ValidDay (closedDays : List Day) (d : BookDay) : Type 0 where
   pub today-clears : clearing closedDays (d .today) ≡ true
   pub today-most : d .today .0 ≤ lastDay
 
--- what holds of every obligation of a book beside its soundness: its day clears, and what is outstanding of it has not
--- come beyond its last day
+-- O9, Open: what holds of every obligation of a book besides its soundness: its J is a clearing day, and as long as
+-- something of it is outstanding, its age is not above last
 pub record Timely (b : Book) (o : Obligation) : Type 0 where
   pub clears : clearing (closedOf b) (o .deal .day) ≡ true
   pub young : 1 ≤ o .parts .outstanding → ageOf b o ≤ lastOf (b .setup .terms) o

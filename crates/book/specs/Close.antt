@@ -1,4 +1,4 @@
--- Close.
+-- The call Close.
 use Prim.Native.Nat.{ℕ}
 use mathlib.Core.Bool.{true}
 use mathlib.Core.List.{List}
@@ -18,45 +18,46 @@ use Rattle.book.specs.declared.BookDay.{BookDay}
 use Rattle.book.specs.declared.Closed.{Closed}
 use Rattle.book.specs.Book.{withDay, withLast, closedOf, todayOf}
 
--- D4, Days and units: the next clearing day after today
+-- D4, Days and units: the next clearing day after the book's today
 abbrev pub nextDay : Book → NextDay
 nextDay b = nextAfter (closedOf b) (todayOf b)
 
--- the end of the book's day, with the price and the rate of a Close
+-- what a Close works with: the setup of the book, its today, and the price and the rate of the Close
 abbrev pub dayEnd : Book → ℕ → ℕ → DayEnd
 dayEnd b price rate = record { setup = b .setup; today = todayOf b; price = price; rate = rate }
 
--- C17, Close, and R21 and R22, Refusals: the day after it, on which a Month and an Again may come
+-- C17, Close; R21 and R22, Refusals: the day of the book after a Close: today has moved on, and a Month and an Again
+-- may come
 abbrev pub closedDay : Day → BookDay
 closedDay next = record { today = next; «close_since» = true; «has_closed» = true }
 
--- C17, Close, and N2, Again: the book after it, of which today is the next clearing day, and which keeps the lines
+-- C17, Close; N2, Again: the book after a Close, whose today is the next clearing day, and which keeps the lines
 abbrev pub closedBook : Book → DayEnd → Day → Book
 closedBook b d next = withLast (keptFrom (closeLines d (b .ledger))) (withDay (closedDay next) (closedLedger d (b .ledger)) b)
 
--- A5, Refusals: a refused Close or Again
+-- A5, Refusals: what a refused Close or Again returns
 abbrev pub closeRefused : Book → ℕ → Closed
 closeRefused b n = record { answer = n; count = 0; book = b }
 
--- A12, Refusals, of Close: its answer number, with this many words lent
+-- A12, Refusals: the answer number of Close, with this many words lent
 abbrev pub closeAnswer : Book → ℕ → ℕ → ℕ → ℕ
 closeAnswer b price rate words = answer (closeRefusals price rate words (nextDay b))
 
--- C15 and C17, Close: what it returns if it is done and next is the next clearing day
+-- C15 and C17, Close: what a Close that is done returns, if next is the next clearing day
 abbrev pub closeDone : Book → DayEnd → Day → Closed
 closeDone b d next = record { answer = 0; count = length (closeLines d (b .ledger)); book = closedBook b d next }
 
--- C17 and R20, Close: by the next clearing day after today, with this many words lent. If there is none, the call is
--- refused. If there is one, the call is done or refused.
+-- C17, Close; R20, Refusals: what Close returns, by the next clearing day after today and with this many words lent. If
+-- there is none, the call is refused. If there is one, the call is done or refused.
 unfoldable pub closeBy : Book → ℕ → ℕ → ℕ → NextDay → Closed
 closeBy b price rate words Never = closeRefused b (answer (closeRefusals price rate words Never))
 closeBy b price rate words (At next) =
     outcome (answer (closeRefusals price rate words (At next))) (closeDone b (dayEnd b price rate) next) (closeRefused b)
 
--- C1 to C17, Close: with this many words lent
+-- C1 to C17, Close: what Close returns, with this many words lent
 unfoldable pub close : Book → ℕ → ℕ → ℕ → Closed
 close b price rate words = closeBy b price rate words (nextDay b)
 
--- C15 and A5, Close: every word of the lent list as it ends
+-- C15, Close; A5, Refusals: every word of the lent list as Close ends
 unfoldable pub closeWords : Book → ℕ → ℕ → List ℕ → List ℕ
 closeWords b price rate ws = outcome (closeAnswer b price rate (length ws)) (written (closeLines (dayEnd b price rate) (b .ledger)) ws) (λ n. ws)

@@ -1,4 +1,4 @@
--- Open.
+-- The call Open.
 use Prim.Native.Nat.{ℕ}
 use mathlib.Core.Bool.{false}
 use mathlib.Core.List.{List, [], _∷_}
@@ -18,17 +18,17 @@ use Rattle.book.specs.declared.Book.{Book}
 use Rattle.book.specs.declared.Opened.{Opened}
 use Rattle.refusals.specs.Calls.{badFirst}
 
--- O3 and O4, Open: the stages by terms 0 and by terms 1
+-- O3 and O4, Open: the three ages, notice, grace and last, by terms 0 and by terms 1
 abbrev pub termsOf : ℕ → Terms
 termsOf terms =
     pick (eqb terms 0) (record { notice = clearingDays 29; grace = clearingDays 30; last = clearingDays 35 })
     (record { notice = clearingDays 7; grace = clearingDays 10; last = clearingDays 13 })
 
--- O5, Open: what a book with these closed days and this number of terms keeps to
+-- O5, Open: the closed days and the terms of a book, which it keeps from its Open on
 abbrev pub setupOf : ClosedDays → ℕ → Setup
 setupOf closedDays terms = record { «closed_days» = closedDays; terms = termsOf terms }
 
--- O5, Open: a fresh book
+-- O5, Open: a fresh book, whose today is the first day
 abbrev pub freshBook : Day → ClosedDays → ℕ → Book
 freshBook first closedDays terms = record {
   setup = setupOf closedDays terms;
@@ -42,11 +42,12 @@ freshBook first closedDays terms = record {
 unfoldable pub refusedBook : Book
 refusedBook = freshBook (day 2) (closedDays []) 0
 
--- O6, Open: its answer if it is refused
+-- O6, Open; A5, Refusals: what a refused Open returns
 abbrev pub openRefused : ℕ → Opened
 openRefused n = record { answer = n; book = refusedBook }
 
--- A6, R1, R4 and R11, Refusals, of Open
+-- O7, Open; A6, R1, R4 and R11, Refusals: the refusals of Open. The first day is tested against the closed days of the
+-- same call.
 unfoldable pub openRefusals : Day → List ℕ → ℕ → List Refusal
 openRefusals first closed terms =
     refuse 1 (ltb 1 terms)
@@ -54,7 +55,7 @@ openRefusals first closed terms =
     ∷ refuse 11 (badFirst (closedDays closed) first)
     ∷ []
 
--- O1 and O5 to O7, Open
+-- O1 and O5 to O7, Open: what Open returns. It is given the first day, the closed days and the number of the terms.
 unfoldable pub opened : Day → List ℕ → ℕ → Opened
 opened first closed terms =
     outcome (answer (openRefusals first closed terms))

@@ -10,12 +10,12 @@ use Rattle.calendar.specs.declared.NextDay.{NextDay}
 use Rattle.calendar.specs.declared.NextDay.the-variants.{At, Never}
 use Rattle.calendar.specs.Closed.{day, lastDay, among}
 
--- a count of clearing days, or an age
+-- D8, Days and units: a count of clearing days, or an age, which is not a calendar day
 abbrev pub clearingDays : ℕ → ClearingDays
 clearingDays n = record { 0 = n }
 
--- D3, Days and units: a day clears if its number leaves 2 to 6 when divided by 7 and it is not closed; cs are the closed
--- days
+-- D3, Days and units: a day is a clearing day if its number leaves 2 to 6 when it is divided by 7, which makes it one
+-- of Monday to Friday, and it is not closed; cs are the closed days
 unfoldable pub clearing : List Day → Day → Bool
 clearing cs d = leb 2 (d .0 % 7) && not (among cs d)
 
@@ -28,7 +28,7 @@ nextWithin cs (suc k) d = pick (clearing cs (day (d + 1))) (At (day (d + 1))) (n
 unfoldable pub nextAfter : List Day → Day → NextDay
 nextAfter cs d = nextWithin cs (lastDay - d .0) (d .0)
 
--- D6 and D7, Days and units: the next clearing day after one that was looked for; after none there is none
+-- D6 and D7, Days and units: the next clearing day after one that was looked for; if there was none, there is none
 unfoldable pub nextOf : List Day → NextDay → NextDay
 nextOf cs (At d) = nextAfter cs d
 nextOf cs Never = Never
@@ -51,15 +51,18 @@ clearingWithin cs d (suc k) = clearingWithin cs d k + pick (clearing cs (day (d 
 unfoldable pub ageAt : List Day → Day → Day → ClearingDays
 ageAt cs j today = clearingDays (clearingWithin cs (j .0) (today .0 - j .0))
 
--- This states no rule; the code works out an age by it. It counts the weekdays up to day n, as if no day were closed.
+-- How many weekdays there are up to day n, as if no day were closed. This states no rule: the code works out an age as
+-- the weekdays between two days, less the closed days among them.
 unfoldable pub weekdaysTo : ℕ → ℕ
 weekdaysTo n = clearingWithin [] 0 n
 
--- this states no rule: whether closed day c is a weekday that is later than one day and not later than another
+-- Whether closed day c is a weekday that is later than one day and not later than another. This states no rule: the
+-- code takes such a day off an age.
 unfoldable pub takesAway : Day → Day → Day → Bool
 takesAway c after to = ltb (after .0) (c .0) && (leb (c .0) (to .0) && leb 2 (c .0 % 7))
 
--- this states no rule: how many closed days are weekdays that are later than one day and not later than another
+-- How many closed days are weekdays that are later than one day and not later than another. This states no rule: the
+-- code takes them off an age.
 unfoldable pub closedBetween : List Day → Day → Day → ℕ
 closedBetween [] after to = 0
 closedBetween (c ∷ cs) after to = pick (takesAway c after to) 1 0 + closedBetween cs after to

@@ -22,11 +22,11 @@ use Rattle.closing.specs.declared.DayEnd.{DayEnd}
 use Rattle.closing.specs.declared.Line.{Line}
 use Rattle.closing.specs.Lines.{written}
 
--- what a pass over the offers has found
+-- what a pass over the offers has found, without the free places
 abbrev pub taken : BuyIn → List Given
 taken b = take (b .count) (b .given)
 
--- the offers of a day, of which none is above the highest price
+-- the offers of a day: no more than a book can hold, and none above the highest price
 pub record Priced (offers : Offers) : Type 0 where
   pub few : offers .count ≤ mostOffers
   pub prices : Every (λ x. x .price ≤ mostOfferPrice) (listedOffers offers)
@@ -59,8 +59,8 @@ mostBefore = mostAccount - mostPerClose
 abbrev pub Near : List ℤ → Type 0
 Near accounts = (m : ℕ) → natAbs (getD accounts m (pos 0)) ≤ mostBefore
 
--- what the Close of a ledger requires: a valid ledger at the valid end of a day, accounts that can take its penalties, and
--- room for the most lines
+-- what the Close of a ledger requires: a valid ledger at the valid end of a day, accounts that can take its penalties,
+-- and room for the most lines
 pub record Closable (d : DayEnd) (l : Ledger) (ws : List ℕ) : Type 0 where
   pub valid : ValidLedger l
   pub end : ValidEnd d

@@ -16,8 +16,8 @@ use Rattle.closing.specs.declared.Line.{Line}
 use Rattle.closing.specs.Lines.{Made, nothing, then}
 use Rattle.closing.specs.Stages.{priced, penaltyOn, measuresAt, penalised, noticeAt, buyInAt, compensatedAt}
 
--- C3, Close: the course of a Close for one obligation, with these cents of penalty and these measures: its penalty, then a
--- notice, then the buy-in, then compensation
+-- C3, Close: the course of a Close for one obligation, with these cents of penalty and these measures: its penalty,
+-- then a notice, then the buy-in, then compensation
 unfoldable pub course : ℕ → Measures → ℕ → List Offer → ℕ → Obligation → Made
 course cents m price offers n o =
     then (then (then (penalised n cents o) (noticeAt (m .notice) n)) (buyInAt (m .«buy_in») offers n))
@@ -29,8 +29,8 @@ unfoldable pub stages : DayEnd → ℕ → List Offer → ℕ → Obligation →
 stages d age offers n o =
     course (penaltyOn d o) (measuresAt (d .setup .terms) age o) (d .price) offers n (priced (d .setup .terms) age (d .price) o)
 
--- C2, Close: what happens to an obligation. It is due if its J is today or earlier and something of it is outstanding;
--- any other obligation stays as it is.
+-- C2, Close; B10, Buy-in: what happens to an obligation. It is due if its J is today or earlier and something of it is
+-- outstanding. Any other obligation stays as it is and gets no line, even if there are offers for it.
 unfoldable pub closedOne : DayEnd → List Offer → ℕ → Obligation → Made
 closedOne d offers n o =
     pick (isDue (d .today) o) (stages d (ageBy (d .setup) (d .today) o) offers n o) (nothing o)
@@ -54,16 +54,16 @@ unfoldable pub fined : DayEnd → Obligation → List ℤ → List ℤ
 fined d o accounts =
     pick (isDue (d .today) o) (transferred (sidesOf o .debtor) (sidesOf o .creditor) (penaltyOn d o) accounts) accounts
 
--- C5, Close: the accounts after the penalties of the first n obligations
+-- C5, Close; M2, Month: the accounts after the penalties of the first n obligations; nothing else moves them
 unfoldable pub accountsUpTo : DayEnd → List Obligation → List ℤ → ℕ → List ℤ
 accountsUpTo d os accounts zero = accounts
 accountsUpTo d os accounts (suc n) = fined d (getD os n noObligation) (accountsUpTo d os accounts n)
 
--- C3 to C15, Close: all lines
+-- C3, C4 and C6 to C14, Close: all lines of a Close
 abbrev pub closeLines : DayEnd → Ledger → List Line
 closeLines d l = linesUpTo d (listedOffers (l .offers)) (l .obligations) (l .count)
 
--- C2 to C10 and C17, Close: the ledger after the Close; then the offers of the day are removed
+-- C2 to C5, C7 to C10 and C17, Close; B5, Buy-in: the ledger after a Close; the offers of the day are removed
 abbrev pub closedLedger : DayEnd → Ledger → Ledger
 closedLedger d l = record {
   obligations = rowsUpTo d (listedOffers (l .offers)) (l .obligations) (l .count);

@@ -41,7 +41,7 @@ unfoldable pub flat : List Line → List ℕ
 flat [] = []
 flat (l ∷ ls) = wordsOf l ++ flat ls
 
--- C15, Close: the lines stand at the front of the lent list; each word behind them stays as it was
+-- C15, Close; N2, Again: the lines are at the front of the lent list; each word after them stays as it was
 unfoldable pub written : List Line → List ℕ → List ℕ
 written ls ws = atFront (flat ls) ws
 
@@ -56,11 +56,11 @@ lineAt ws i = record {
   price = getD ws (wordsInLine * i + 5) 0;
 }
 
--- C11 and J5, Close: the first count lines of a list, as they are read from it
+-- C11, Close; J5, Whole journals: the first count lines of a list, as they are read from it
 unfoldable pub linesRead : ℕ → List ℕ → List Line
 linesRead count ws = table count (lineAt ws)
 
--- how large the numbers of a line are at most; this holds of every line of a Close
+-- how large the numbers of a line may be; this holds of every line of a Close
 pub record SoundLine (l : Line) : Type 0 where
   pub kind-most : l .kind ≤ mostKind
   pub there : l .obligation < mostObligations
@@ -81,16 +81,17 @@ nothing o = record { obligation = o; lines = [] }
 abbrev pub one : Obligation → Line → Made
 one o l = record { obligation = o; lines = l ∷ [] }
 
--- C3, Close: one part after another; the second works on what the first has left, and its lines come behind
+-- C3, Close: one part after another; the second works on what the first has left, and its lines come after those of the
+-- first
 unfoldable pub then : Made → (Obligation → Made) → Made
 then m f = record { obligation = f (m .obligation) .obligation; lines = m .lines ++ f (m .obligation) .lines }
 
--- there is room for the lines of a part behind count lines
+-- after the first count lines there is room for the lines of a part
 abbrev pub Room : ℕ → List ℕ → Made → Type 0
 Room count ws m = wordsInLine * (count + length (m .lines)) ≤ length ws
 
--- A part was carried out behind count lines. r has the obligation and the number of lines after it, and ws' is the list
--- after it.
+-- A part was carried out after count lines were written. r has the obligation and the number of lines after it, and ws'
+-- is the list after it.
 pub record Wrote (count : ℕ) (ws : List ℕ) (r : Closing) (ws' : List ℕ) (m : Made) : Type 0 where
   pub made : r .obligation ≡ m .obligation
   pub counted : r .count ≡ count + length (m .lines)

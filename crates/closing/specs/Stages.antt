@@ -29,8 +29,8 @@ priced terms age price o = pick (eqb age (terms .grace .0)) (withGracePrice pric
 unfoldable pub penaltyOn : DayEnd → Obligation → ℕ
 penaltyOn d o = penalty (o .parts .outstanding) (d .price) (d .rate)
 
--- C6, C7 and C10, Close: what is done to an obligation beside its penalty is decided once, as the Close begins. A notice
--- comes at age = notice, the buy-in at ages above grace up to last, and compensation at age = last.
+-- C6, C7 and C10, Close: what is done to an obligation besides its penalty is decided once, as the Close begins. A
+-- notice comes at age = notice, the buy-in at ages above grace up to last, and compensation at age = last.
 unfoldable pub measuresAt : Terms → ℕ → Obligation → Measures
 measuresAt terms age o = record {
   notice = eqb age (terms .notice .0);
@@ -46,8 +46,8 @@ penalised n cents o = one o (plainLine penaltyKind n (o .parts .outstanding) cen
 unfoldable pub noticeAt : Bool → ℕ → Obligation → Made
 noticeAt comes n o = pick comes (one o (plainLine noticeKind n (o .parts .outstanding) 0)) (nothing o)
 
--- C9 and C12, Close: the line of what one offer gives. Its charge is the value less the cash, and the cash goes on from
--- the units that were settled before it.
+-- C9 and C12, Close: the line of what one offer gives. Its charge is the value less the cash, and the cash continues
+-- from the units that were settled before it.
 abbrev pub boughtLine : ℕ → Given → Obligation → Line
 boughtLine n g o = record {
   kind = boughtKind;
@@ -69,9 +69,9 @@ boughtAll n (g ∷ gs) o = then (boughtFrom n g o) (boughtAll n gs)
 
 -- C7, Close: the buy-in, if there is to be one. The offers for the obligation give in the order of the list `offers`.
 -- In a book this is the order of C7: rising price, then earlier entry. It comes from offers/specs: Offer puts each new
--- offer at its place among those that the book holds (`withOffer` in Held.antt), and `overtakes` in Rank.antt says which
--- place that is. The clause `buy-ins` of the promise in journal/proofs/Demand3.antt says the same of every Close of
--- every journal, from the offers as they were entered.
+-- offer at its place among those that the book holds (`withOffer` in Held.antt), and `overtakes` in Rank.antt says
+-- which place that is. The clause `buy-ins` of the promise in journal/proofs/Demand3.antt says the same of every Close
+-- of every journal, from the offers as they were entered.
 unfoldable pub buyInAt : Bool → List Offer → ℕ → Obligation → Made
 buyInAt comes offers n o =
     pick comes (boughtAll n (given n (o .parts .outstanding) offers) o) (nothing o)

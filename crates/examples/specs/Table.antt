@@ -24,61 +24,65 @@ pub record Row : Type 0 where
   pub computed : List ℕ
   pub settled : List ℕ
 
--- 1 where a test holds, else 0
+-- 1 if a test holds, and 0 if not, as examples 5 and 6 show it
 abbrev pub asNumber : Bool → ℕ
 asNumber t = pick t 1 0
 
--- R18, Refusals: 18 for an offer whose price is above the cap over the price at age = grace, and 0 for one that passes
+-- X4, Settled examples: 18 for an offer whose price is above the cap over the price at age = grace, and 0 for one that
+-- passes
 abbrev pub capAnswer : ℕ → ℕ → ℕ
 capAnswer price gracePrice = pick (aboveCap price gracePrice) 18 0
 
--- the number of a clearing day that was looked for, where there is one
+-- the number of a clearing day that was looked for, as a list that is empty if there is none
 abbrev pub dayNumber : NextDay → List ℕ
 dayNumber (At d) = d .0 ∷ []
 dayNumber Never = []
 
--- the same as one number, 0 where there is none
+-- the number of a clearing day that was looked for, or 0 if there is none
 abbrev pub dayOrNone : NextDay → ℕ
 dayOrNone (At d) = d .0
 dayOrNone Never = 0
 
--- the n-th clearing day after j, with these closed days
+-- X9, Settled examples: the n-th clearing day after j, with these closed days
 abbrev pub nthDay : List Day → ℕ → ℕ → List ℕ
 nthDay closed j n = dayNumber (nthAfter closed (day j) (clearingDays n))
 
--- what the first three of 32 members get of c cents
+-- X8, Settled examples: what the first three of 32 members get of c cents
 abbrev pub firstShares : ℕ → ℕ → ℕ → ℕ → List ℕ
 firstShares c g0 g1 g2 = take 3 (shares c (g0 ∷ g1 ∷ g2 ∷ replicate 29 0))
 
--- an offer for obligation 0
+-- an offer for obligation 0, as in examples 10 and 14
 abbrev pub offerOf : ℕ → ℕ → ℕ → Offer
 offerOf supplier quantity price = record { obligation = 0; supplier = supplier; quantity = quantity; price = price }
 
--- supplier, quantity and charge of what was given, of an obligation with amount a and quantity q of which s is settled
+-- X10 and X14, Settled examples: supplier, quantity and charge of each quantity given, of an obligation with amount a
+-- and quantity q of which s is settled
 unfoldable pub boughtFrom : ℕ → ℕ → ℕ → List Given → List ℕ
 boughtFrom a q s [] = []
 boughtFrom a q s (g ∷ gs) =
     g .offer .supplier ∷ g .quantity ∷ charge (g .quantity) (g .offer .price) (cash a q s (s + g .quantity))
     ∷ boughtFrom a q (s + g .quantity) gs
 
--- X10 and X14, Settled examples: the same of what offers give to ten units for 1,000,000 cents, none of them settled;
--- the last offer entered stands first
+-- X10 and X14, Settled examples: supplier, quantity and charge of what these offers give to ten units for 1,000,000
+-- cents, none of them settled; the last offer entered comes first
 abbrev pub auctionOf : List Offer → List ℕ
 auctionOf entered = boughtFrom 1000000 10 0 (given 0 10 (ranked entered))
 
--- E11, Enter: what the three legs of X5 and X6 answer: leg 1 without a match, a refusal by 3, and leg 2 in obligation 0
+-- X5 and X6, Settled examples: what the three legs answer: leg 1 without a match, a refusal by 3, and leg 2 in
+-- obligation 0
 abbrev pub oneOfThree : List ℕ
 oneOfThree = (0 ∷ 1 ∷ 0 ∷ []) ++ (3 ∷ 0 ∷ 0 ∷ []) ++ 0 ∷ 2 ∷ 1 ∷ []
 
--- V2, Deliver: what the three Delivers of X7 answer
+-- X7, Settled examples: what the three Delivers answer
 abbrev pub threeCash : List ℕ
 threeCash = (0 ∷ 333 ∷ []) ++ (0 ∷ 333 ∷ []) ++ 0 ∷ 334 ∷ []
 
--- C11, Close: what the Close of X3 answers: it has two lines, a penalty of 0 cents and the compensation
+-- X3, Settled examples: what the Close answers: it has two lines, a penalty of 0 cents and the compensation
 abbrev pub compensatedFor : ℕ → List ℕ
 compensatedFor cents = (0 ∷ 2 ∷ []) ++ (1 ∷ 0 ∷ 1 ∷ 0 ∷ 0 ∷ 0 ∷ []) ++ 4 ∷ 0 ∷ 1 ∷ cents ∷ 0 ∷ 0 ∷ []
 
--- C11, Close: what the Close of X10 answers: it has three lines, a penalty of 0 cents and the two quantities bought in
+-- X10, Settled examples: what the Close answers: it has three lines, a penalty of 0 cents and the two quantities bought
+-- in
 abbrev pub boughtInTwo : List ℕ
 boughtInTwo =
     (0 ∷ 3 ∷ [])
@@ -86,25 +90,27 @@ boughtInTwo =
     ++ (3 ∷ 0 ∷ 5 ∷ 2500 ∷ 2 ∷ 100500 ∷ [])
     ++ 3 ∷ 0 ∷ 5 ∷ 5000 ∷ 1 ∷ 101000 ∷ []
 
--- C11, Close: what the Close of X14 answers: it has two lines, a penalty of 0 cents and the quantity bought in
+-- X14, Settled examples: what the Close answers: it has two lines, a penalty of 0 cents and the quantity bought in
 abbrev pub boughtInOne : List ℕ
 boughtInOne = (0 ∷ 2 ∷ []) ++ (1 ∷ 0 ∷ 10 ∷ 0 ∷ 0 ∷ 0 ∷ []) ++ 3 ∷ 0 ∷ 10 ∷ 10000 ∷ 1 ∷ 101000 ∷ []
 
--- C11, Close: the two lines of X11, a penalty of 200 cents and one of 100 cents, behind the answer number and their count
+-- X11, Settled examples: what the Close and the Again answer: two lines, a penalty of 200 cents and one of 100 cents,
+-- after the answer number and their count
 abbrev pub twoPenalties : List ℕ
 twoPenalties = (0 ∷ 2 ∷ []) ++ (1 ∷ 0 ∷ 200 ∷ 200 ∷ 0 ∷ 0 ∷ []) ++ 1 ∷ 1 ∷ 100 ∷ 100 ∷ 0 ∷ 0 ∷ []
 
--- M12 and M13, Month: what each of the two journals of X12 shows: five accepted calls, and a Month that pays 200 and
--- 100 cents
+-- X12, Settled examples: what each of the two journals shows: five accepted calls, and a Month that pays 200 and 100
+-- cents
 abbrev pub paidInFull : List ℕ
 paidInFull = accepted 5 ++ 0 ∷ 200 ∷ 100 ∷ 0 ∷ []
 
--- X13, Settled examples: what a Target for one year shows that is lent seven words, each of them 9: its answer number,
+-- X13, Settled examples: what a Target for one year shows if it is lent seven words, each of them 9: its answer number,
 -- how many days it wrote, and the words
 abbrev pub targetShown : ℕ → List ℕ
 targetShown year = target year year 7 .answer ∷ target year year 7 .count ∷ targetWords year year (replicate 7 9)
 
--- X1 to X14, Settled examples: first by the definitions that each example speaks of, then as calls after an Open
+-- X1 to X14, Settled examples: the table of the examples, first by the definitions that each example speaks of, then as
+-- calls after an Open
 abbrev pub table : List Row
 table =
     record { item = 1; computed = penalty 1000 100000 10 ∷ []; settled = 1000 ∷ [] }

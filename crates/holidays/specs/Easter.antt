@@ -5,11 +5,11 @@ use lib.Dec.{eqb, ltb}
 use Rattle.basics.specs.Choice.{pick}
 use Rattle.holidays.specs.Years.{dateOf}
 
--- H5, Closed days: the golden number is the remainder of the year by 19, and 1 more
+-- H5, Closed days: the golden number is the remainder of the year by 19, with 1 added
 abbrev pub golden : ℕ → ℕ
 golden y = y % 19 + 1
 
--- H6, Closed days: the century's number is a hundredth of the year, rounded down, and 1 more: 21 from 2000 to 2099
+-- H6, Closed days: the century's number is a hundredth of the year, rounded down, with 1 added: 21 from 2000 to 2099
 abbrev pub century : ℕ → ℕ
 century y = y / 100 + 1
 
@@ -41,7 +41,8 @@ epact y = pick (excepted (plainEpact y) (golden y)) (plainEpact y + 1) (plainEpa
 unfoldable pub marchMoon : ℕ → ℕ
 marchMoon y = dateOf y 3 (31 - epact y) + 13
 
--- H9, Closed days: the paschal full moon is this one, or if it is before 21 March, the one that is 30 days later
+-- H9, Closed days: the paschal full moon is this full moon or, if this one is before 21 March, the one that is 30 days
+-- later
 unfoldable pub fullMoon : ℕ → ℕ
 fullMoon y = pick (ltb (marchMoon y) (dateOf y 3 21)) (marchMoon y + 30) (marchMoon y)
 
@@ -49,7 +50,7 @@ fullMoon y = pick (ltb (marchMoon y) (dateOf y 3 21)) (marchMoon y + 30) (marchM
 abbrev pub isSunday : ℕ → Bool
 isSunday d = eqb (d % 7) 1
 
--- H10, Closed days: the first Sunday among the k days from day d on, or the day behind them if none of them is one
+-- H10, Closed days: the first Sunday among the k days from day d on, or the day after them if none of them is one
 unfoldable pub sundayFrom : ℕ → ℕ → ℕ
 sundayFrom zero d = d
 sundayFrom (suc k) d = pick (isSunday d) d (sundayFrom k (d + 1))

@@ -36,7 +36,7 @@ yearsIn first last = last + 1 - first
 unfoldable pub targetDays : ℕ → ℕ → List ℕ
 targetDays first last = closedFrom first (yearsIn first last)
 
--- R5, Refusals, of Target: the list has fewer than six words for each year from the first to the last
+-- R5, Refusals: Target is refused if the list has fewer than six words for each year from the first to the last
 abbrev pub tooFew : ℕ → ℕ → ℕ → Bool
 tooFew first last words = ltb words (6 * yearsIn first last)
 
@@ -48,17 +48,19 @@ lastYear = 2178
 abbrev pub mostYears : ℕ
 mostYears = 8
 
--- R23, Refusals: a year is before 2000 or after 2178, the last is before the first, or there are more than eight
+-- R23, Refusals: Target is refused if a year is before 2000 or after 2178, if the last is before the first, or if there
+-- are more than eight
 abbrev pub badYears : ℕ → ℕ → Bool
 badYears first last =
     outside firstYear lastYear first
     || (outside firstYear lastYear last || (ltb last first || ltb mostYears (yearsIn first last)))
 
--- A18, Refusals, of Target: with this many words lent
+-- A3 and A18, Refusals: the refusals of Target, with this many words lent. It takes no book, so 23 is a refusal of what
+-- it is given, as 5 is.
 unfoldable pub targetRefusals : ℕ → ℕ → ℕ → List Refusal
 targetRefusals first last words = refuse 5 (tooFew first last words) ∷ refuse 23 (badYears first last) ∷ []
 
--- A18, Refusals, of Target: its answer number, with this many words lent
+-- A18, Refusals: the answer number of Target, with this many words lent
 abbrev pub targetAnswer : ℕ → ℕ → ℕ → ℕ
 targetAnswer first last words = answer (targetRefusals first last words)
 
@@ -66,20 +68,21 @@ targetAnswer first last words = answer (targetRefusals first last words)
 abbrev pub targetDone : ℕ → ℕ → DaysWritten
 targetDone first last = record { answer = 0; count = length (targetDays first last) }
 
--- A5, Refusals: a refused Target returns its number and zero days
+-- A5, Refusals: a refused Target returns its number and 0 as the number of days
 abbrev pub targetRefused : ℕ → DaysWritten
 targetRefused n = record { answer = n; count = 0 }
 
--- H12, Closed days: the answer of Target, with this many words lent
+-- G2, Promises; H1 and H12, Closed days: the answer of Target. It is given any two years and is lent this many words,
+-- and it takes no book.
 unfoldable pub target : ℕ → ℕ → ℕ → DaysWritten
 target first last words = outcome (targetAnswer first last words) (targetDone first last) targetRefused
 
--- H12, Closed days, and A5, Refusals: every word of the lent list as it ends. If Target is done, the days stand at the
--- front, and each word behind them is as it was.
+-- G2, Promises; H12, Closed days; A5, Refusals: every word of the lent list as Target ends. If Target is done, the days
+-- are at the front, and each word after them is as it was.
 unfoldable pub targetWords : ℕ → ℕ → List ℕ → List ℕ
 targetWords first last ws = outcome (targetAnswer first last (length ws)) (atFront (targetDays first last) ws) (λ n. ws)
 
--- a year that Target takes; the functions that work on one year require it
+-- A year that Target takes. The functions that work on one year require it.
 pub record Taken (y : ℕ) : Type 0 where
   pub from : firstYear ≤ y
   pub to : y ≤ lastYear

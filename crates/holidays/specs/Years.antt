@@ -7,7 +7,7 @@ use lib.ListN.{take}
 use Rattle.basics.specs.Choice.{pick}
 use Rattle.basics.specs.Lists.{sum}
 
--- H2, Closed days: a number divides a year
+-- H2, Closed days: whether a number divides a year
 abbrev pub divides : ℕ → ℕ → Bool
 divides n y = eqb (y % n) 0
 
@@ -19,7 +19,7 @@ isLeap y = divides 4 y && (not (divides 100 y) || divides 400 y)
 unfoldable pub monthsOf : ℕ → List ℕ
 monthsOf y = 31 ∷ pick (isLeap y) 29 28 ∷ 31 ∷ 30 ∷ 31 ∷ 30 ∷ 31 ∷ 31 ∷ 30 ∷ 31 ∷ 30 ∷ 31 ∷ []
 
--- D2, Days and units: the days have their numbers from the first day of this year on
+-- D2, Days and units; H4, Closed days: day 0 is the first day of this year
 abbrev pub firstYear : ℕ
 firstYear = 2000
 
@@ -32,7 +32,7 @@ daysOfYears (suc n) = daysOfYears n + sum (monthsOf (firstYear + n))
 unfoldable pub newYear : ℕ → ℕ
 newYear y = daysOfYears (y - firstYear)
 
--- H4, Closed days: the day of a date, which is given by its year, its month and its day in the month. The years before,
--- the months before in its year and the days before in its month come ahead of it.
+-- H4, Closed days: the day of a date, which is given by its year, its month and its day in the month. It comes after
+-- all earlier years, after the earlier months of its year and after the earlier days of its month.
 unfoldable pub dateOf : ℕ → ℕ → ℕ → ℕ
 dateOf y month d = newYear y + sum (take (month - 1) (monthsOf y)) + (d - 1)

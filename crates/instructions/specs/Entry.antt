@@ -13,17 +13,18 @@ use Rattle.instructions.specs.declared.Entry.the-variants.{Refused, Alon
 use Rattle.instructions.specs.Legs.{mostLegs, legOf, inState, withState, withLeg}
 use Rattle.instructions.specs.Match.{lowestFit}
 
--- E10, Enter: a new leg by the search for the leg that it matches
+-- E10, Enter: what an accepted Enter comes to, by the search for the leg that the new one matches
 abbrev pub entryBy : Leg → Fit → Entry
 entryBy new Nobody = Alone new
 entryBy new (With k) = Matching new k
 
--- A5, Refusals, and E5 and E10, Enter: what an Enter with this answer number comes to
+-- A5, Refusals; E5 and E10, Enter: what an Enter with this answer number comes to
 abbrev pub entryOf : Legs → ℕ → Instruction → Entry
 entryOf s number i = pick (eqb number 0) (entryBy (legOf i) (lowestFit s (legOf i))) Refused
 
--- E2 and E10, Enter: the legs after an Enter, whose obligation has the number n if there is a match. A leg without a match
--- waits, and both legs of a match are matched to the obligation. A refused Enter leaves the legs as they are (A5).
+-- E2 and E10, Enter: the legs after an Enter, whose obligation has the number n if there is a match. A leg without a
+-- match waits, and both legs of a match are matched to the obligation. A refused Enter leaves the legs as they are
+-- (A5).
 abbrev pub withEntry : Entry → ℕ → Legs → Legs
 withEntry Refused n s = s
 withEntry (Alone new) n s = withLeg new s
@@ -35,13 +36,13 @@ Enterable Refused s = Unit {0}
 Enterable (Alone new) s = s .count < mostLegs
 Enterable (Matching new k) s = (s .count < mostLegs) × (k < mostLegs)
 
--- E11, Enter, and A5, Refusals: the number of the new leg, where there were so many legs before; 0 for a refused Enter
+-- E11, Enter; A5, Refusals: the number of the new leg, which is how many legs there were before; 0 for a refused Enter
 abbrev pub legNumber : Entry → ℕ → ℕ
 legNumber Refused legs = 0
 legNumber (Alone new) legs = legs
 legNumber (Matching new k) legs = legs
 
--- E11, Enter, and A5, Refusals: the number of the new obligation plus 1, where there were so many obligations before, or 0
+-- E11, Enter; A5, Refusals: the number of the new obligation plus 1, if there were this many obligations before, or 0
 -- without a match and for a refused Enter
 abbrev pub obligationNumber : Entry → ℕ → ℕ
 obligationNumber Refused obligations = 0

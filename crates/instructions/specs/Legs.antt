@@ -17,7 +17,7 @@ use Rattle.instructions.specs.declared.Legs.{Legs}
 use Rattle.instructions.specs.declared.FetchedLeg.{FetchedLeg}
 use Rattle.instructions.specs.declared.FetchedLeg.the-variants.{Found, Absent}
 
--- E3, Enter: a leg waits, was withdrawn, or was matched
+-- E3, Enter: whether a leg waits; one that was withdrawn or matched does not
 abbrev pub isWaiting : LegState → Bool
 isWaiting Waiting = true
 isWaiting Withdrawn = false
@@ -43,7 +43,7 @@ pub record Fitting (i : Instruction) : Type 0 where
   pub side-fits : i .side ≤ 255
   pub quantity-fits : i .quantity ≤ mostQuantity
 
--- a place that no leg has taken holds a withdrawn leg of zeros
+-- what fills a place that no leg has taken: a withdrawn leg of zeros
 abbrev pub noLeg : Leg
 noLeg = record { member = 0; other = 0; side = 0; quantity = 0; amount = 0; day = day 0; state = Withdrawn }
 
@@ -51,7 +51,7 @@ noLeg = record { member = 0; other = 0; side = 0; quantity = 0; amount = 0; day 
 abbrev pub mostLegs : ℕ
 mostLegs = 128
 
--- E2, Enter, and O5, Open: a fresh book has no legs
+-- E2, Enter; O5, Open: a fresh book has no legs
 abbrev pub noLegs : Legs
 noLegs = record { rows = replicate mostLegs noLeg; count = 0 }
 
@@ -59,7 +59,7 @@ noLegs = record { rows = replicate mostLegs noLeg; count = 0 }
 abbrev pub entered : Legs → List Leg
 entered s = take (s .count) (s .rows)
 
--- the same leg in another state
+-- E3, Enter: the same leg in another state
 abbrev pub inState : LegState → Leg → Leg
 inState state l = record {
   member = l .member;
@@ -79,7 +79,7 @@ legAt s n = getD (s .rows) n noLeg
 unfoldable pub fetchedLeg : Legs → ℕ → FetchedLeg
 fetchedLeg s n = pick (ltb n (s .count)) (Found (legAt s n)) Absent
 
--- E10, Enter, and T1, Withdraw: the leg with a number goes into another state
+-- E10, Enter; T1, Withdraw: the leg with a number goes into another state
 abbrev pub withState : ℕ → LegState → Legs → Legs
 withState n state s = record { rows = set (s .rows) n (inState state (legAt s n)); count = s .count }
 
@@ -87,20 +87,20 @@ withState n state s = record { rows = set (s .rows) n (inState state (legAt s n)
 abbrev pub withLeg : Leg → Legs → Legs
 withLeg l s = record { rows = set (s .rows) (s .count) l; count = s .count + 1 }
 
--- 1 for a leg that waits, else 0
+-- 1 for a leg that waits, and 0 for any other
 abbrev pub waitingOne : Leg → ℕ
 waitingOne l = pick (isWaiting (l .state)) 1 0
 
--- how many legs wait
+-- how many of the legs wait
 unfoldable pub waiting : Legs → ℕ
 waiting s = total waitingOne (entered s)
 
--- what holds of every leg that was entered
+-- O9, Open: what holds of every leg that was entered
 pub record SoundLeg (l : Leg) : Type 0 where
   pub amount-some : 1 ≤ l .amount
   pub amount-most : l .amount ≤ mostAmount
 
--- what holds of the legs of every book
+-- O9, Open: what holds of the legs of every book
 pub record ValidLegs (s : Legs) : Type 0 where
   pub size : length (s .rows) ≡ mostLegs
   pub few : s .count ≤ mostLegs

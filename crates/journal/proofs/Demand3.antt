@@ -1,7 +1,7 @@
--- The statement of the promise on whole journals (docs/RULES.md, chapter Promises, G3): what is promised of every list of
--- calls, said of the functions themselves. It can be read without a proof; Theorem.antt proves it. `Asked` is what the
--- contract of a function requires, and `Learnt` is what the contract tells a caller of the result and of the lists as the
--- call ended. A clause of the statement says of each function that its code gives a caller just this.
+-- The statement of the promise on whole journals (docs/RULES.md, chapter Promises, G3): what is promised of every list
+-- of calls, said of the functions themselves. It can be read without the proof, which is in Theorem.antt. `Asked` is
+-- what the contract of a function requires, and `Learnt` is what the contract tells a caller of the result and of the
+-- lists as the call ended. A clause of the statement says of each function that its code gives a caller exactly this.
 use Prim.Native.Nat.{ℕ, _<_}
 use mathlib.Core.Path.{_≡_}
 use mathlib.Core.List.{List, []}
@@ -69,7 +69,7 @@ pub data Ran : Run → Type 0 where
       })
   called : {s : Run} {c : Call} {r : Outcome} → Ran s → Called (s .book) c r → Ran (after s c r)
 
--- G1, Promises: what the contract of a call's function requires of the book and the arguments, wherever a lent list lies
+-- G1, Promises: what the contract of a call's function requires of the book and the arguments, wherever a lent list is
 abbrev pub May : Book → Call → Type 0
 May b (Call.enter member other side q a j) = code.enter.Reads.Asked tt (b, (member, (other, (side, (q, (a, (j, tt)))))))
 May b (Call.withdraw leg member) = code.withdraw.Reads.Asked tt (b, (leg, (member, tt)))
@@ -130,11 +130,11 @@ pub record Promise (s : Run) : Type 1 where
   pub account-same : (m : ℕ) (t : Balance) → AccountCalled (s .book) m t → t .book ≡ s .book
   pub look-same : (m : ℕ) (t : Looked) → LookCalled (s .book) m t → t .book ≡ s .book
   pub again-same : (ws us : List ℕ) (t : Closed) → AgainCalled (s .book) ws t us → t .book ≡ s .book
-  -- J13 and J14: each accepted Month pays out just what it collected, and each creditor gets its share
+  -- J13 and J14: each accepted Month pays out exactly what it collected, and each creditor gets its share
   pub months : EveryMonth (s .past)
   -- J17: after the list, a Month that is given what each member owes by the events ends as an empty one does
   pub typed-or-empty : SameAsEmpty (s .book) (debtsIn (s .past))
-  -- C7 and C8: at each accepted Close the offers for each obligation in its buy-in days are taken in their order
+  -- C7 and C8: at each accepted Close the offers for each obligation in its buy-in days are taken in the order of C7
   pub buy-ins : EveryBuyIn (s .opening) (s .past)
   -- B9: every obligation whose age is above grace has had its Close at age = grace, which left a price for the cap
   pub cap-prices : EveryCapPrice (s .opening) (s .past)
@@ -144,9 +144,9 @@ pub record Promise (s : Run) : Type 1 where
   pub may-account : (m : ℕ) → code.account.Reads.Asked tt (s .book, (m, tt))
   pub may-look : (m : ℕ) → code.look.Reads.Asked tt (s .book, (m, tt))
 
--- What a caller of a routine has: in every model of the machine and in every program, under whatever name the routine
--- stands there, a call of it with arguments for which the one statement holds ends, and the other statement then holds of
--- the arguments, the result and the lists as the call ended.
+-- What a caller of a routine has, in every model of the machine and in every program, whatever the name of the routine
+-- is there: if the first statement holds of the arguments, a call of the routine ends, and the second statement then
+-- holds of the arguments, the result and the lists as the call ended.
 abbrev pub Gives : (n : ℕ) (ps : List (PK n)) (r : RK n) → Routine → In n ps → Out n ps r → Type 2
 Gives n ps r ρ asked learnt = (w : World) (γ : Env) (k : Name) → γ k ≡ ρ →
     Known (w .𝓤) (w .H) (w .𝓖 .A) (givenOf (w .𝓤) (w .H) (w .𝓜) (w .𝓖)) (Over (w .𝓤) (w .H) (w .𝓜) (w .𝓖) (w .𝓡) γ)

@@ -10,7 +10,7 @@ pub record Opening : Type 0 where
   pub closed : List ℕ
   pub terms : ℕ
 
--- J1, Whole journals: a call with any arguments, and the lists that it is lent as they are when it begins
+-- J1, Whole journals: a call with any arguments, and the lists that it is lent, as they are when it begins
 pub data Call : Type 0 where
   enter : (member other side quantity amount : ℕ) (day : Day) → Call
   withdraw : (leg member : ℕ) → Call
@@ -21,9 +21,10 @@ pub data Call : Type 0 where
   again : (lines : List ℕ) → Call
   month : (collected payouts : List ℕ) → Call
 
--- J3, Whole journals: a call and what came of it: the answer number, the results in the order of the rules, and the words
--- of its lent lists as the call ended: of the list that it fills (the lines of a Close or an Again, the payouts of a Month)
--- and of the list that it only reads (the collected amounts of a Month). There are no words for the other calls.
+-- J3, Whole journals: a call and what came of it: the answer number, the results in the order of the rules, and the
+-- words of its lent lists as the call ended. These are the list that it fills (the lines of a Close or an Again, the
+-- payouts of a Month) and the list that it only reads (the collected amounts of a Month). The other calls have no
+-- words.
 pub record Event : Type 0 where
   pub call : Call
   pub answer : ℕ
@@ -36,7 +37,8 @@ pub record Began : Type 0 where
   pub answer : ℕ
   pub closed : List ℕ
 
--- a journal under way: its Open and what came of it, the book, and the events that led to it, the latest first
+-- J1, Whole journals: a journal so far: its Open and what came of it, the book, and the events that led to the book,
+-- the latest first
 pub record Run : Type 0 where
   pub opening : Opening
   pub began : Began

@@ -19,7 +19,7 @@ use Rattle.book.specs.Instructing.{newLeg}
 use Rattle.journal.specs.Calls.{Call, Event}
 
 -- ---- Enter and Withdraw
--- E2 and T1, Enter and Withdraw: what a call does to the legs. It enters one, and then the two numbers are those that it
+-- E2, Enter; T1, Withdraw: what a call does to the legs. It enters one, and then the two numbers are those that it
 -- returned, or it withdraws one, or it does neither.
 pub data LegChange : Type 0 where
   enters : (leg obligation : ℕ) → Leg → LegChange
@@ -50,40 +50,41 @@ instructs n neither = none
 abbrev pub partOfKind : ℕ → Option Part
 partOfKind kind = pick (eqb kind boughtKind) (some BoughtIn) (pick (eqb kind compensationKind) (some Compensated) none)
 
--- whether this is the part
+-- whether there is a part and it is part k
 abbrev pub isPart : Part → Option Part → Bool
 isPart k none = false
 isPart k (some j) = samePart k j
 
--- the quantity of a line if it says what became part k of obligation n, else 0
+-- J7 and J8, Whole journals: the quantity of a line if it says what became part k of obligation n, else 0
 unfoldable pub quantityTo : Part → ℕ → Line → ℕ
 quantityTo k n l = pick (isPart k (partOfKind (l .kind)) && eqb (l .obligation) n) (l .quantity) 0
 
--- C1 and J5, Close: how an accepted Close ended the day: its price, and the lines that it reported. They are read from its
--- list as it ended, and they are as many as the Close returned.
+-- C1, Close; J5, Whole journals: how an accepted Close ended the day: its price, and the lines that it reported. They
+-- are read from its list as it ended, and they are as many as the Close returned.
 pub record Ended : Type 0 where
   pub price : ℕ
   pub lines : List Line
 
--- whether there was a Close
+-- whether an event is an accepted Close
 abbrev pub isEnd : Option Ended → Bool
 isEnd none = false
 isEnd (some d) = true
 
--- the lines that were reported
+-- J5, Whole journals: the lines that an event reported, if it is an accepted Close; there are none otherwise
 abbrev pub reported : Option Ended → List Line
 reported none = []
 reported (some d) = d .lines
 
--- the price of the Close
+-- the price of an accepted Close
 abbrev pub priceOf : Option Ended → ℕ
 priceOf none = 0
 priceOf (some d) = d .price
 
 -- ---- the facts of an event
--- What an event says: what it does to the legs; which quantity of an obligation it moves to a part, beside what its lines
--- say; whether it is member m's wish to cancel obligation n; the offers that it enters; how it ended the day if it is a
--- Close; and the list of collected amounts that it was given if it is a Month.
+-- What an event says: what it does to the legs; which quantity of an obligation it moves to a part, apart from what its
+-- lines say; whether it is member m's wish to cancel obligation n; the offers that it enters; how it ended the day if
+-- it is a Close; and the list of collected amounts that it was given if it is a Month. Every sum and every history
+-- takes its own from them.
 pub record Facts : Type 0 where
   pub legs : LegChange
   pub moves : Part → ℕ → ℕ
@@ -92,37 +93,37 @@ pub record Facts : Type 0 where
   pub ends : Option Ended
   pub collects : Option (List ℕ)
 
--- an event that says nothing
+-- the facts of an event that says nothing
 abbrev pub noFacts : Facts
 noFacts = record { legs = neither; moves = λ k n. 0; wishes = λ n m. false; offers = []; ends = none; collects = none }
 
--- E2 and T1, Enter and Withdraw: it only changes the legs
+-- E2, Enter; T1, Withdraw: the facts of a call that only changes the legs
 abbrev pub onlyLegs : LegChange → Facts
 onlyLegs c = record { legs = c; moves = λ k n. 0; wishes = λ n m. false; offers = []; ends = none; collects = none }
 
--- a quantity of one obligation moves to one part
+-- J6 and J9, Whole journals: a quantity of one obligation moves to one part
 abbrev pub movesOne : Part → ℕ → ℕ → Part → ℕ → ℕ
 movesOne k n q j m = pick (samePart j k && eqb m n) q 0
 
--- it moves quantities, and it may be a wish to cancel
+-- the facts of a call that moves quantities and may be a wish to cancel
 abbrev pub onlyMoves : (Part → ℕ → ℕ) → (ℕ → ℕ → Bool) → Facts
 onlyMoves f w = record { legs = neither; moves = f; wishes = w; offers = []; ends = none; collects = none }
 
--- B5, Buy-in: it only enters offers
+-- B5, Buy-in: the facts of a call that only enters offers
 abbrev pub onlyOffers : List Offer → Facts
 onlyOffers xs = record { legs = neither; moves = λ k n. 0; wishes = λ n m. false; offers = xs; ends = none; collects = none }
 
--- C17, Close: it ends the day
+-- C17, Close: the facts of a Close, which ends the day
 abbrev pub onlyEnds : Ended → Facts
 onlyEnds d = record { legs = neither; moves = λ k n. 0; wishes = λ n m. false; offers = []; ends = some d; collects = none }
 
--- J13, Whole journals: it is given a list of collected amounts, which may be empty
+-- J13, Whole journals: the facts of a Month, which is given a list of collected amounts that may be empty
 abbrev pub onlyCollects : List ℕ → Facts
 onlyCollects cs = record { legs = neither; moves = λ k n. 0; wishes = λ n m. false; offers = []; ends = none; collects = some cs }
 
--- What an accepted call says, by its results and by its list as it ended. J6, Whole journals: a Deliver delivers its
--- quantity. J9: a Cancel cancels what it returned. N5, Again: an Again changes nothing, and its lines are not reported once
--- more. J13: a Month is given the collected amounts as they were lent.
+-- J6, J9 and J13, Whole journals; N5, Again: what an accepted call says, by its results and by its list as it ended. A
+-- Deliver delivers its quantity. A Cancel cancels what it returned. An Again changes nothing, and its lines are not
+-- reported a second time. A Month is given the collected amounts as they were lent.
 abbrev pub factsOf : Call → List ℕ → List ℕ → Facts
 factsOf (Call.enter member other side q a j) rs ws = onlyLegs (enters (getD rs 0 0) (getD rs 1 0) (newLeg member other side q a j))
 factsOf (Call.withdraw leg member) rs ws = onlyLegs (withdraws leg)
@@ -141,7 +142,7 @@ accepted e = eqb (e .answer) 0
 abbrev pub facts : Event → Facts
 facts e = pick (accepted e) (factsOf (e .call) (e .results) (e .words)) noFacts
 
--- J6 to J9, Whole journals: what an event makes part k of obligation n: what the call moved there, and what its reported
--- lines say
+-- J6 to J9, Whole journals: what an event makes part k of obligation n: what the call moved there, and what its
+-- reported lines say
 abbrev pub movedBy : Part → ℕ → Facts → ℕ
 movedBy k n f = f .moves k n + total (quantityTo k n) (reported (f .ends))

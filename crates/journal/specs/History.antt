@@ -1,4 +1,4 @@
--- What a book stores beside its obligations, said by the events alone. Events stand the latest first.
+-- What a book stores besides its obligations, told by the events alone. The latest event comes first.
 use Prim.Native.Nat.{ℕ, _+_, _-_}
 use mathlib.Core.Bool.{Bool, true, false, _&&_, not}
 use mathlib.Core.List.{List, [], _∷_, _++_}
@@ -25,7 +25,7 @@ unfoldable pub closeSinceIn : List Event → Bool
 closeSinceIn [] = false
 closeSinceIn (e ∷ es) = pick (isEnd (facts e .ends)) true (pick (isMonth (facts e .collects)) false (closeSinceIn es))
 
--- N2, Again: the latest accepted Close, if there was one
+-- N2 and N3, Again: the latest accepted Close, if there was one
 unfoldable pub latestClose : List Event → Option Event
 latestClose [] = none
 latestClose (e ∷ es) = pick (isEnd (facts e .ends)) (some e) (latestClose es)
@@ -40,24 +40,24 @@ abbrev pub latestLines : Option Event → List Line
 latestLines none = []
 latestLines (some e) = reported (facts e .ends)
 
--- B5, Buy-in: the offers since the last accepted Close, the latest first. An accepted Close ends them.
+-- B5, Buy-in: the offers since the last accepted Close, the latest first. An accepted Close removes them.
 unfoldable pub offersIn : List Event → List Offer
 offersIn [] = []
 offersIn (e ∷ es) = pick (isEnd (facts e .ends)) [] (facts e .offers ++ offersIn es)
 
 -- ---- Enter and Withdraw
--- these legs with leg k in another state
+-- the legs with leg k in another state
 abbrev pub legIntoState : ℕ → LegState → List Leg → List Leg
 legIntoState k state ls = set ls k (inState state (getD ls k noLeg))
 
--- E10, Enter: the legs after an Enter that returned this number for its obligation. If no leg fits, the new one waits, and
--- if one fits, both are matched to the obligation.
+-- E10, Enter: the legs after an Enter that returned this number for its obligation. If no leg fits, the new one waits,
+-- and if one fits, both are matched to the obligation.
 abbrev pub legsWith : Leg → ℕ → Fit → List Leg → List Leg
 legsWith new obligation Nobody ls = ls ++ new ∷ []
 legsWith new obligation (With k) ls =
     legIntoState k (Matched (obligation - 1)) ls ++ inState (Matched (obligation - 1)) new ∷ []
 
--- E5 and T1, Enter and Withdraw: what a change makes of the legs. A new leg matches the waiting leg with the lowest number
+-- E5, Enter; T1, Withdraw: what a change makes of the legs. A new leg matches the waiting leg with the lowest number
 -- that fits.
 abbrev pub legsAfter : LegChange → List Leg → List Leg
 legsAfter (enters leg obligation new) ls = legsWith new obligation (firstFit new 0 ls) ls
@@ -69,7 +69,8 @@ unfoldable pub legsIn : List Event → List Leg
 legsIn [] = []
 legsIn (e ∷ es) = legsAfter (facts e .legs) (legsIn es)
 
--- E8, Enter: the amount of the delivering one of a new leg and the leg that it matches; a leg that matches none has its own
+-- E8, Enter: the amount of the delivering one of a new leg and the leg that it matches; a leg that matches none has its
+-- own
 abbrev pub amountWith : Leg → Fit → List Leg → ℕ
 amountWith new Nobody ls = new .amount
 amountWith new (With k) ls = delivering new (getD ls k noLeg) .amount
@@ -101,9 +102,9 @@ abbrev pub isFit : ℕ → Fit → Bool
 isFit n Nobody = false
 isFit n (With k) = eqb k n
 
--- E10 and T1, Enter and Withdraw: whether leg n waits after a change, where these are the legs before it and the last
--- argument is whether leg n waited then. A leg that is entered waits unless its Enter returned an obligation. Any other
--- leg goes on waiting unless it is withdrawn or a new leg matches it.
+-- E10, Enter; T1, Withdraw: whether leg n waits after a change, if these are the legs before it and the last argument
+-- says whether leg n waited then. A leg that is entered waits unless its Enter returned an obligation. Any other leg
+-- goes on waiting unless it is withdrawn or a new leg matches it.
 abbrev pub waitsAfter : ℕ → LegChange → List Leg → Bool → Bool
 waitsAfter n (enters leg obligation new) ls waited = pick (eqb leg n) (eqb obligation 0) (not (isFit n (firstFit new 0 ls)) && waited)
 waitsAfter n (withdraws k) ls waited = not (eqb k n) && waited

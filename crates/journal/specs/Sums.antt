@@ -1,4 +1,4 @@
--- The sums over a journal, from its Open and its events alone. Events stand the latest first.
+-- The sums over a journal, from its Open and its events alone. The latest event comes first.
 use Prim.Native.Nat.{ℕ, _-_}
 use mathlib.Core.Bool.{Bool, true, false, _&&_, _||_}
 use mathlib.Core.List.{List, [], _∷_}
@@ -33,35 +33,35 @@ use Rattle.journal.specs.Facts.{Instructed, instructs, isEnd, reported, 
 abbrev pub openedWith : {A : Type 0} → Opening → A → A → A
 openedWith o given refused = outcome (answer (openRefusals (o .first) (o .closed) (o .terms))) given (λ n. refused)
 
--- O5 and O6, Open: the first day
+-- O5 and O6, Open: the first day of the book
 abbrev pub firstDay : Opening → Day
 firstDay o = openedWith o (o .first) (day 2)
 
--- O5 and O6, Open: the closed days and the terms, to which the book keeps
+-- O5 and O6, Open: the closed days and the terms, which the book keeps from its Open on
 abbrev pub setupIn : Opening → Setup
 setupIn o = openedWith o (setupOf (closedDays (o .closed)) (o .terms)) (setupOf (closedDays []) 0)
 
--- O5 and O6, Open: the closed days
+-- O5 and O6, Open: the closed days of the book
 abbrev pub closedDaysIn : Opening → ClosedDays
 closedDaysIn o = setupIn o .«closed_days»
 
--- O5 and O6, Open: the terms
+-- O5 and O6, Open: the terms of the book
 abbrev pub termsIn : Opening → Terms
 termsIn o = setupIn o .terms
 
--- C17, Close: today moves on to the next clearing day. An accepted Close has one: without a next clearing day a Close is
--- refused by 20 (R20), so that the day stays.
+-- C17, Close: today moves on to the next clearing day. An accepted Close has one: without a next clearing day a Close
+-- is refused by 20 (R20), so the day stays.
 abbrev pub movedOn : NextDay → Day → Day
 movedOn (At next) today = next
 movedOn Never today = today
 
--- O5, Open, and C17, Close: today is Open's first day, moved on to the next clearing day by each accepted Close
+-- O5, Open; C17, Close: today is Open's first day, moved on to the next clearing day by each accepted Close
 unfoldable pub todayIn : Opening → List Event → Day
 todayIn o [] = firstDay o
 todayIn o (e ∷ es) = pick (isEnd (facts e .ends)) (movedOn (nextAfter (listedDays (closedDaysIn o)) (todayIn o es)) (todayIn o es)) (todayIn o es)
 
 -- ---- the obligations of a journal
--- the first of two that is there
+-- the first of two values if it is there, and the second if not
 abbrev pub orElse : {A : Type 0} → Option A → Option A → Option A
 orElse (some x) y = some x
 orElse none y = y
@@ -72,8 +72,8 @@ instructedIn n [] = none
 instructedIn n (e ∷ es) = orElse (instructs n (facts e .legs)) (instructedIn n es)
 
 -- J6 to J9, Whole journals: what became part k of an obligation. Delivered is the sum of the quantities of its accepted
--- Delivers, bought in and compensated are the sums of the quantities of its reported lines of kinds 3 and 4, and cancelled
--- is the sum of what its accepted Cancels returned.
+-- Delivers, bought in and compensated are the sums of the quantities of its reported lines of kinds 3 and 4, and
+-- cancelled is the sum of what its accepted Cancels returned.
 unfoldable pub partIn : Part → ℕ → List Event → ℕ
 partIn k n es = total (λ e. movedBy k n (facts e)) es
 
@@ -96,8 +96,8 @@ abbrev pub isGraceDay : Opening → List Event → Option Instructed → Bool
 isGraceDay o es none = false
 isGraceDay o es (some i) = eqb (ageIn o i es) (termsIn o .grace .0)
 
--- B8 and B9, Buy-in: the price for the cap of an obligation is that of the accepted Close at age = grace, which is the age
--- on the day that this Close ends. Before such a Close it is 0.
+-- B8 and B9, Buy-in: the price for the cap of an obligation is that of the accepted Close at age = grace, which is the
+-- age on the day that this Close ends. Before such a Close it is 0.
 unfoldable pub gracePriceIn : Opening → ℕ → List Event → ℕ
 gracePriceIn o n [] = 0
 gracePriceIn o n (e ∷ es) =
@@ -123,8 +123,8 @@ abbrev pub creditOf : ℕ → ℕ → Option Sides → ℤ
 creditOf m cents none = pos 0
 creditOf m cents (some s) = pick (eqb (s .creditor) m) (pos cents) (pos 0) -ℤ pick (eqb (s .debtor) m) (pos cents) (pos 0)
 
--- C5 and C12, Close: what the penalties among these lines, which are of kind 1, credit to a member, less what they debit
--- to it, where each number has these sides
+-- C5 and C12, Close: what the penalties among these lines, which are of kind 1, credit to a member, less what they
+-- debit to it, if each obligation has these sides
 unfoldable pub penaltiesOf : ℕ → (ℕ → Option Sides) → List Line → ℤ
 penaltiesOf m sidesAt [] = pos 0
 penaltiesOf m sidesAt (l ∷ ls) = pick (eqb (l .kind) penaltyKind) (creditOf m (l .cents) (sidesAt (l .obligation))) (pos 0) +ℤ penaltiesOf m sidesAt ls
@@ -134,17 +134,17 @@ abbrev pub isMonth : Option (List ℕ) → Bool
 isMonth none = false
 isMonth (some cs) = true
 
--- J11, Whole journals: what the penalty lines since the last accepted Month, or since the start if there was none, credited
--- to a member, less what they debited to it
+-- J11, Whole journals: what the penalty lines since the last accepted Month, or since the start if there was none,
+-- credited to a member, less what they debited to it
 unfoldable pub accountIn : ℕ → List Event → ℤ
 accountIn m [] = pos 0
 accountIn m (e ∷ es) = pick (isMonth (facts e .collects)) (pos 0) (accountIn m es +ℤ penaltiesOf m (λ n. sidesIn n es) (reported (facts e .ends)))
 
--- M4 and J13, Month: the claims after these events, in the order of the members
+-- M4, Month; J13, Whole journals: the claims after these events, in the order of the members
 abbrev pub claimsIn : List Event → List ℕ
 claimsIn es = table memberCount (λ m. claim (accountIn m es))
 
--- M4 and J13, Month: what each member owes after these events, in the order of the members
+-- M4, Month; J13 and J17, Whole journals: what each member owes after these events, in the order of the members
 abbrev pub debtsIn : List Event → List ℕ
 debtsIn es = table memberCount (λ m. owed (accountIn m es))
 

@@ -33,7 +33,7 @@ mostPerClose = mostObligations * mostPenalty
 abbrev pub mostSupplier : ℕ
 mostSupplier = 999
 
--- O5, Open, and M1, Month: a fresh book has no obligations and no offers, and its 32 accounts are zero
+-- O5, Open; M1, Month: a fresh book has no obligations and no offers, and its 32 accounts are zero
 abbrev pub newLedger : Ledger
 newLedger = record { obligations = replicate mostObligations noObligation; count = 0; offers = noOffers; accounts = replicate memberCount (pos 0) }
 
@@ -41,7 +41,8 @@ newLedger = record { obligations = replicate mostObligations noObligation; count
 abbrev pub obligationAt : Ledger → ℕ → Obligation
 obligationAt l n = getD (l .obligations) n noObligation
 
--- A4, Refusals: a call that names an obligation fetches it by its number, and finds it if the number is below the count
+-- A4 and R13, Refusals: a call that names an obligation fetches it by its number, and finds it if the number is below
+-- the count
 unfoldable pub fetched : Ledger → ℕ → Fetched
 fetched l n = pick (ltb n (l .count)) (Found (obligationAt l n)) Absent
 
@@ -49,12 +50,12 @@ fetched l n = pick (ltb n (l .count)) (Found (obligationAt l n)) Absent
 abbrev pub withObligation : ℕ → Obligation → Ledger → Ledger
 withObligation n o l = record { obligations = set (l .obligations) n o; count = l .count; offers = l .offers; accounts = l .accounts }
 
--- A5, Refusals: what a call comes to that is refused by a number: no result, and no obligation
+-- A5, Refusals: what a call on an obligation comes to if it is refused by a number: no result, and no obligation
 abbrev pub refusedChange : ℕ → Change
 refusedChange k = record { answer = k; result = 0; obligation = noObligation }
 
--- A5, Refusals: the ledger after a call on obligation n. If the call is done, the obligation is what the call made of it;
--- a refused call changes nothing.
+-- A5, Refusals: the ledger after a call on obligation n. If the call is done, the obligation is what the call made of
+-- it; a refused call changes nothing.
 abbrev pub changed : ℕ → Change → Ledger → Ledger
 changed n c l = pick (eqb (c .answer) 0) (withObligation n (c .obligation) l) l
 
@@ -62,7 +63,7 @@ changed n c l = pick (eqb (c .answer) 0) (withObligation n (c .obligation) l) l
 abbrev pub withNew : Obligation → Ledger → Ledger
 withNew o l = record { obligations = set (l .obligations) (l .count) o; count = l .count + 1; offers = l .offers; accounts = l .accounts }
 
--- B5, Buy-in: the book holds one offer more
+-- B4 and B5, Buy-in: the ledger holds one offer more
 abbrev pub withOfferFor : Offer → Ledger → Ledger
 withOfferFor o l = record { obligations = l .obligations; count = l .count; offers = withOffer (l .offers) o; accounts = l .accounts }
 
@@ -70,7 +71,7 @@ withOfferFor o l = record { obligations = l .obligations; count = l .count; offe
 abbrev pub clearedLedger : Ledger → Ledger
 clearedLedger l = record { obligations = l .obligations; count = l .count; offers = l .offers; accounts = replicate memberCount (pos 0) }
 
--- what holds of every offer of today, where there are n obligations
+-- O9, Open: what holds of every offer of today, if there are n obligations
 pub record SoundOffer (n : ℕ) (x : Offer) : Type 0 where
   pub there : x .obligation < n
   pub supplier-most : x .supplier ≤ mostSupplier
@@ -79,19 +80,19 @@ pub record SoundOffer (n : ℕ) (x : Offer) : Type 0 where
   pub price-some : 1 ≤ x .price
   pub price-most : x .price ≤ mostOfferPrice
 
--- what holds of the offers of today, where there are n obligations
+-- O9, Open: what holds of the offers of today, if there are n obligations
 pub record ValidOffers (n : ℕ) (offers : Offers) : Type 0 where
   pub size : length (offers .rows) ≡ mostOffers
   pub few : offers .count ≤ mostOffers
   pub sound : Every (SoundOffer n) (listedOffers offers)
   pub ranked : Sorted (λ x y. overtakes y x ≡ false) (listedOffers offers)
 
--- what holds of the accounts of every book
+-- O9, Open: what holds of the accounts of every book
 pub record ValidAccounts (accounts : List ℤ) : Type 0 where
   pub size : length accounts ≡ memberCount
   pub even : balance accounts ≡ pos 0
 
--- what holds of the ledger of every book
+-- O9, Open: what holds of the ledger of every book
 pub record ValidLedger (l : Ledger) : Type 0 where
   pub size : length (l .obligations) ≡ mostObligations
   pub few : l .count ≤ mostObligations

@@ -1,4 +1,4 @@
--- How many lines a Close makes at most, and how long the list for them is.
+-- How many lines a Close makes at most, and how long the list for them is at least.
 use Prim.Native.Nat.{ℕ, _*_}
 
 -- C11, Close: a line has six words
@@ -9,6 +9,6 @@ wordsInLine = 6
 abbrev pub mostLines : ℕ
 mostLines = 192
 
--- C1, Close, and N1, Again: the list has room for the most lines, so these are the fewest words of it: 1,152
+-- C1 and C16, Close; N1, Again: the fewest words of the lent list, which are exactly enough for the most lines: 1,152
 abbrev pub fewestWords : ℕ
 fewestWords = wordsInLine * mostLines

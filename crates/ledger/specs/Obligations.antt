@@ -29,11 +29,11 @@ latestDay = 60000
 abbrev pub ageBy : Setup → Day → Obligation → ℕ
 ageBy setup today o = ageAt (listedDays (setup .«closed_days»)) (o .deal .day) today .0
 
--- E9, Enter: a new obligation has come to no stage yet
+-- the stage of a new obligation: no price for the cap is stored yet
 abbrev pub newStage : Stage
 newStage = record { «grace_price» = 0 }
 
--- of a new obligation nobody wishes to cancel
+-- the wishes of a new obligation: neither party has asked to cancel it
 abbrev pub noWishes : Wishes
 noWishes = record { seller = false; buyer = false }
 
@@ -41,7 +41,7 @@ noWishes = record { seller = false; buyer = false }
 abbrev pub newObligation : Deal → Obligation
 newObligation d = record { deal = d; parts = partsBy (λ k. 0) (d .quantity); stage = newStage; wishes = noWishes }
 
--- a place that no obligation has taken holds this one
+-- what fills a place that no obligation has taken
 abbrev pub noObligation : Obligation
 noObligation = newObligation (record { seller = 0; buyer = 0; quantity = 0; amount = 0; day = day 0 })
 
@@ -57,7 +57,7 @@ withStage s o = record { deal = o .deal; parts = o .parts; stage = s; wishes = o
 abbrev pub withWishes : Wishes → Obligation → Obligation
 withWishes w o = record { deal = o .deal; parts = o .parts; stage = o .stage; wishes = w }
 
--- an obligation with another price at age = grace
+-- B9, Buy-in: an obligation in which this price of the Close at age = grace is stored
 abbrev pub withGracePrice : ℕ → Obligation → Obligation
 withGracePrice price o = withStage (record { «grace_price» = price }) o
 
@@ -69,11 +69,11 @@ settled o = settledParts (o .parts)
 unfoldable pub cashOf : Obligation → ℕ → ℕ
 cashOf o q = cash (o .deal .amount) (o .deal .quantity) (settled o) (settled o + q)
 
--- V1, C8, C10 and K3: q units of an obligation move from outstanding to the part k
+-- V1, Deliver; C8 and C10, Close; K3, Cancel: q units of an obligation move from outstanding to the part k
 unfoldable pub moving : Part → ℕ → Obligation → Obligation
 moving k q o = withParts (moved k q (o .parts)) o
 
--- C10 and K3: all that is outstanding becomes the part k
+-- C10, Close; K3, Cancel: all that is outstanding becomes the part k
 abbrev pub movingAll : Part → Obligation → Obligation
 movingAll k o = moving k (o .parts .outstanding) o
 
@@ -108,7 +108,7 @@ movedByWish member o = pick (bothWish (withWish member o)) (o .parts .outstandin
 unfoldable pub lastOf : Terms → Obligation → ℕ
 lastOf terms o = terms .last .0
 
--- B7, Buy-in, and C7, Close: the age is above grace and not above last
+-- B7, Buy-in; C7, Close: the age is above grace and not above last
 abbrev pub inBuyIn : ℕ → ℕ → ℕ → Bool
 inBuyIn grace last age = ltb grace age && leb age last
 
@@ -124,7 +124,7 @@ sides seller buyer = record { debtor = seller; creditor = buyer }
 abbrev pub sidesOf : Obligation → Sides
 sidesOf o = sides (o .deal .seller) (o .deal .buyer)
 
--- what holds of every deal of a book
+-- O9, Open: what holds of every deal of a book
 pub record SoundDeal (d : Deal) : Type 0 where
   pub quantity-some : 1 ≤ d .quantity
   pub quantity-most : d .quantity ≤ mostQuantity
@@ -135,17 +135,17 @@ pub record SoundDeal (d : Deal) : Type 0 where
   pub parties-apart : d .seller ≡ d .buyer → ⊥
   pub day-most : d .day .0 ≤ latestDay
 
--- what holds of every obligation's stage
+-- O9, Open: what holds of the stage of every obligation
 pub record SoundStage (s : Stage) : Type 0 where
   pub price-most : s .«grace_price» ≤ mostClosePrice
 
--- what holds of every obligation of a book
+-- O9, Open: what holds of every obligation of a book
 pub record Sound (o : Obligation) : Type 0 where
   pub deal : SoundDeal (o .deal)
   pub whole : allParts (o .parts) ≡ o .deal .quantity
   pub stage : SoundStage (o .stage)
 
--- a sound obligation with at least q outstanding
+-- a sound obligation with at least q outstanding, as a delivery and a buy-in of q units require it
 pub record Takes (o : Obligation) (q : ℕ) : Type 0 where
   pub sound : Sound o
   pub enough : q ≤ o .parts .outstanding

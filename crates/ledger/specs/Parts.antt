@@ -9,14 +9,14 @@ use Rattle.ledger.specs.declared.Part.{Part}
 use Rattle.ledger.specs.declared.Part.the-variants.{Delivered, BoughtIn, Compensated, Cancelled}
 use Rattle.ledger.specs.declared.Parts.{Parts}
 
--- the units that have become a part
+-- the units of a quantity that have become this part
 abbrev pub partOf : Part → Parts → ℕ
 partOf Delivered p = p .delivered
 partOf BoughtIn p = p .«bought_in»
 partOf Compensated p = p .compensated
 partOf Cancelled p = p .cancelled
 
--- the place of a part in the list of all
+-- the place of a part in the list of all parts
 abbrev pub partNumber : Part → ℕ
 partNumber Delivered = 0
 partNumber BoughtIn = 1
@@ -48,11 +48,11 @@ partsBy f left = record {
 abbrev pub samePart : Part → Part → Bool
 samePart j k = eqb (partNumber j) (partNumber k)
 
--- the parts of a quantity of 0
+-- the parts of a quantity of 0, which a refused Status shows
 abbrev pub noParts : Parts
 noParts = partsBy (λ k. 0) 0
 
--- V1, Deliver, C8 and C10, Close, and K3, Cancel: q units move from outstanding to the part k
+-- V1, Deliver; C8 and C10, Close; K3, Cancel: q units move from outstanding to the part k
 abbrev pub moved : Part → ℕ → Parts → Parts
 moved k q p = partsBy (λ j. pick (samePart j k) (partOf j p + q) (partOf j p)) (p .outstanding - q)
 
@@ -60,6 +60,6 @@ moved k q p = partsBy (λ j. pick (samePart j k) (partOf j p + q) (partOf j p)) 
 unfoldable pub settledParts : Parts → ℕ
 settledParts p = total (λ k. pick (settles k) (partOf k p) 0) everyPart
 
--- J10, Whole journals: the sum of the parts, which is Q
+-- J10, Whole journals: the sum of all parts and of what is outstanding, which is Q
 unfoldable pub allParts : Parts → ℕ
 allParts p = total (λ k. partOf k p) everyPart + p .outstanding

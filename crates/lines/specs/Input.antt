@@ -1,4 +1,4 @@
--- The input, line by line: where it stands, and what is taken from it.
+-- The input, line by line: how far it has come, and what is taken from it.
 use Prim.Native.Nat.{ℕ, _+_, min}
 use mathlib.Core.Bool.{Bool, true, false}
 use mathlib.Core.List.{List}
@@ -42,7 +42,7 @@ droppedFrom f = record { from = f .to; to = f .to; held = f .held; ended = f .en
 unfoldable pub linesOf : Feed → ℕ
 linesOf f = pick (ltb 0 (f .held)) (oneMore (f .ended)) (f .ended)
 
--- The current line ends at a place: the bytes after its line feed are taken next.
+-- What is taken if the current line ends at a place: the bytes after its line feed are taken next.
 unfoldable pub endedAt : ℕ → ℕ → Feed → Taken
 endedAt end size f = record {
   feed = record { from = end + 1; to = f .to; held = 0; ended = oneMore (f .ended) };
@@ -50,7 +50,8 @@ endedAt end size f = record {
   size = size;
 }
 
--- The current line has not ended: all bytes that were read are taken, and more of the line is still to be read.
+-- What is taken if the current line has not ended: all bytes that were read are taken, and more of the line is still to
+-- be read.
 unfoldable pub goesOn : ℕ → Feed → Taken
 goesOn held f = record {
   feed = record { from = f .to; to = f .to; held = held; ended = f .ended };

@@ -49,20 +49,21 @@ credited member cents accounts = set accounts member (getD accounts member (pos 
 unfoldable pub transferred : ℕ → ℕ → ℕ → List ℤ → List ℤ
 transferred debtor creditor cents accounts = credited creditor cents (debited debtor cents accounts)
 
--- M9, Month: what the accounts add up to. It is zero, since a penalty takes from one account what it adds to another.
+-- M9, Month; J12, Whole journals: what the accounts add up to. It is zero, since a penalty takes from one account what
+-- it adds to another.
 unfoldable pub balance : List ℤ → ℤ
 balance [] = pos 0
 balance (a ∷ accounts) = a +ℤ balance accounts
 
--- how far from zero an account may be
+-- how far from zero an account may be, so that no sum of claims is too large
 abbrev pub mostAccount : ℕ
 mostAccount = 2 ^ 43
 
--- No account is further from zero than that. Then all claims together are at most 2 ^ 48.
+-- No account is further from zero than mostAccount. So all claims together are at most 2 ^ 48.
 abbrev pub Bounded : List ℤ → Type 0
 Bounded accounts = (m : ℕ) → natAbs (getD accounts m (pos 0)) ≤ mostAccount
 
--- what a transfer requires
+-- what a transfer requires: the numbers of two members, and cents and accounts within their bounds
 pub record Transferable (debtor creditor cents : ℕ) (accounts : List ℤ) : Type 0 where
   pub debtor-below : debtor < memberCount
   pub creditor-below : creditor < memberCount

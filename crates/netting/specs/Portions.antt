@@ -17,11 +17,12 @@ pub record Dividable (c : ℕ) (gs : List ℕ) : Type 0 where
   pub covered : c ≤ sum gs
   pub small : sum gs ≤ 2 ^ 48
 
--- the number that a list holds for each member
+-- the number that a list has for each member
 abbrev pub byMember : List ℕ → ℕ → ℕ
 byMember xs m = getD xs m 0
 
--- the shares rounded down, the remainders and the cents left, for the sum c and the claims gs
+-- the shares rounded down, the remainders and the cents left, for the sum c and the claims gs, before any cent is given
+-- out
 unfoldable pub portions : ℕ → List ℕ → Portions
 portions c gs = record {
   floors = table memberCount (floorShare c gs);
@@ -29,10 +30,10 @@ portions c gs = record {
   left = centsLeft c gs;
 }
 
--- member m gets one of the cents left if fewer members come before it than there are cents
+-- what member m gets of the cents left: one if fewer members come before it than there are cents
 unfoldable pub centOf : Portions → ℕ → ℕ
 centOf p m = pick (ltb (rank (byMember (p .remainders)) m) (p .left)) 1 0
 
--- what member m gets; a member without a claim gets 0
+-- what member m gets, by these portions; a member without a claim gets 0
 unfoldable pub shareOf : List ℕ → Portions → ℕ → ℕ
 shareOf gs p m = pick (ltb 0 (getD gs m 0)) (getD (p .floors) m 0 + centOf p m) 0

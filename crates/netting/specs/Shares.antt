@@ -17,7 +17,7 @@ floorShare c gs m = c * getD gs m 0 / sum gs
 unfoldable pub remainder : ℕ → List ℕ → ℕ → ℕ
 remainder c gs m = c * getD gs m 0 % sum gs
 
--- M6, Month: the cents of C that are then left over
+-- M6, Month: the cents of C that are left over once each claim has its share rounded down
 unfoldable pub centsLeft : ℕ → List ℕ → ℕ
 centsLeft c gs = c - sum (table memberCount (floorShare c gs))
 
@@ -34,7 +34,8 @@ rank r m = countBelow memberCount (λ k. comesBefore r k m)
 unfoldable pub extraCent : ℕ → List ℕ → ℕ → ℕ
 extraCent c gs m = pick (ltb (rank (remainder c gs) m) (centsLeft c gs)) 1 0
 
--- M7 and M8, Month: what member m gets; a member without a claim gets 0
+-- M7 and M8, Month: what member m gets: its share rounded down, and at most one of the cents left; a member without a
+-- claim gets 0
 unfoldable pub share : ℕ → List ℕ → ℕ → ℕ
 share c gs m = pick (ltb 0 (getD gs m 0)) (floorShare c gs m + extraCent c gs m) 0
 

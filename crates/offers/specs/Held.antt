@@ -10,18 +10,19 @@ use Rattle.offers.specs.Rank.{inserted}
 abbrev pub mostOffers : ℕ
 mostOffers = 64
 
--- this fills a free place
+-- what fills a free place among the offers that a book holds
 abbrev pub noOffer : Offer
 noOffer = record { obligation = 0; supplier = 0; quantity = 0; price = 0 }
 
--- O5, Open, and C17, Close: no offers, as in a fresh book and after each Close
+-- O5, Open; C17, Close: no offers, as in a fresh book and after each Close
 abbrev pub noOffers : Offers
 noOffers = record { rows = replicate mostOffers noOffer; count = 0 }
 
--- B5, Buy-in: the offers of today, in the order of the auction; the rows behind them are free
+-- B5, Buy-in: the offers of today, in the order of the auction; the rows after them are free
 abbrev pub listedOffers : Offers → List Offer
 listedOffers s = take (s .count) (s .rows)
 
--- B4, Buy-in: one offer more, at its place in the order of the auction (C7); the free rows behind it stay as they were
+-- B4, Buy-in; C7, Close: one offer more, at its place in the order of the auction; the free rows after it stay as they
+-- were
 abbrev pub withOffer : Offers → Offer → Offers
 withOffer s o = record { rows = inserted o (listedOffers s) ++ drop (s .count + 1) (s .rows); count = s .count + 1 }

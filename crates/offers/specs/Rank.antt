@@ -14,12 +14,12 @@ use Rattle.offers.specs.declared.Offer.{Offer}
 unfoldable pub overtakes : Offer → Offer → Bool
 overtakes x y = ltb (x .price) (y .price)
 
--- the list with o ahead of the first element that it overtakes, or at the end if it overtakes none
+-- the list with o put ahead of the first element that it overtakes by this test, or at the end if it overtakes none
 unfoldable pub insertedBy : {A : Type 0} → (A → A → Bool) → A → List A → List A
 insertedBy over o [] = o ∷ []
 insertedBy over o (y ∷ ys) = pick (over o y) (o ∷ y ∷ ys) (y ∷ insertedBy over o ys)
 
--- the same for offers
+-- C7, Close: the offers with a new one put ahead of the first that it overtakes, or at the end if it overtakes none
 abbrev pub inserted : Offer → List Offer → List Offer
 inserted = insertedBy overtakes
 

@@ -27,7 +27,7 @@ pub record Naming : Type 0 where
 abbrev naming : List ℕ → Name → Shape → Naming
 naming w n s = record { word = w; name = n; shape = s }
 
--- every line that is answered by numbers: its word is its name in lower case
+-- every line that is answered with numbers: its word is its name in lower case
 unfoldable pub namings : List Naming
 namings =
     naming (111 ∷ 112 ∷ 101 ∷ 110 ∷ []) Name.Open Shape.Days
@@ -46,7 +46,7 @@ namings =
     ∷ naming (114 ∷ 117 ∷ 108 ∷ 101 ∷ 115 ∷ []) Name.Rules (Shape.Plain 0)
     ∷ []
 
--- the first entry with this word
+-- the first entry of a list of namings that has this word
 unfoldable pub found : List ℕ → List Naming → Option Naming
 found w [] = none
 found w (x ∷ xs) = pick (sameWord w (x .word)) (some x) (found w xs)
@@ -59,12 +59,12 @@ namingOf w = found w namings
 abbrev pub mostListed : ℕ
 mostListed = 4_096
 
--- the most numbers of a call: an open or a month with the longest list
+-- the most numbers of a call: those of an open or a month with the longest list
 abbrev pub mostNumbers : ℕ
 mostNumbers = 3 + mostListed
 
--- How many numbers a call has. Where days follow, the third number says how many. Where amounts follow, the first number
--- says how many. A list that is lent has two numbers, its length and its fill.
+-- How many numbers a call has. Where days follow, the third number says how many. Where amounts follow, the first
+-- number says how many. A list that is lent has two numbers, its length and its fill.
 unfoldable pub counted : Shape → List ℕ → ℕ
 counted (Shape.Plain k) ns = k
 counted Shape.Days ns = 3 + getD ns 2 0
@@ -78,22 +78,22 @@ listsOf Shape.Days ns = getD ns 2 0 ∷ []
 listsOf (Shape.Lent k) ns = getD ns k 0 ∷ []
 listsOf Shape.Amounts ns = getD ns 0 0 ∷ getD ns (getD ns 0 0 + 1) 0 ∷ []
 
--- whether no list is longer than 4,096 words (docs/JOURNAL.md, What is no call)
+-- whether no list is longer than 4,096 words (docs/JOURNAL.md, What is not a call)
 unfoldable pub listable : List ℕ → Bool
 listable [] = true
 listable (n ∷ ns) = leb n mostListed && listable ns
 
--- A call has neither too few nor too many arguments, and no list that is too long.
+-- whether a call has neither too few nor too many arguments, and no list that is too long
 unfoldable pub shapeRight : Shape → List ℕ → Bool
 shapeRight shape ns = eqb (length ns) (counted shape ns) && listable (listsOf shape ns)
 
--- a number and then others, if the number is there and the others are too
+-- a number and then others, if the number is there and all others are too
 unfoldable pub withNumber : Option ℕ → Option (List ℕ) → Option (List ℕ)
 withNumber none ns = none
 withNumber (some n) none = none
 withNumber (some n) (some ns) = some (n ∷ ns)
 
--- the numbers that words are, if every word is one
+-- the numbers of a list of words, if every word is a number
 unfoldable pub numbersOf : List (List ℕ) → Option (List ℕ)
 numbersOf [] = some []
 numbersOf (w ∷ ws) = withNumber (numberOf w) (numbersOf ws)

@@ -25,7 +25,7 @@ unfoldable pub wordOf : Option ℕ → ℕ → Word
 wordOf none end = NoNumber
 wordOf (some n) end = Number n end
 
--- the word that begins at a place
+-- what the word that begins at a place is: a number with the place where it ends, or no number
 unfoldable pub wordAt : List ℕ → ℕ → Word
 wordAt line at = wordOf (numberOf (firstWord (drop at line))) (at + length (firstWord (drop at line)))
 
@@ -38,7 +38,7 @@ onlyLetters (b ∷ bs) = (leb 97 b && leb b 122) && onlyLetters bs
 abbrev pub mostLetters : ℕ
 mostLetters = 8
 
--- whether a word could be a name
+-- whether a word can be a name: it has no more letters than a name may have, and nothing else
 unfoldable pub nameable : List ℕ → Bool
 nameable w = leb (length w) mostLetters && onlyLetters w
 

@@ -1,4 +1,4 @@
--- What a line of a journal says (docs/JOURNAL.md, Lines in and What is no call).
+-- What a line of a journal says (docs/JOURNAL.md, Lines in and What is not a call).
 use Prim.Native.Nat.{ℕ}
 use mathlib.Core.Path.{_≡_}
 use mathlib.Core.Bool.{Bool, true}
@@ -22,7 +22,7 @@ pub data Meaning : Type 0 where
   comment : Meaning
   no-call : Meaning
 
--- An empty line is a comment, and so is one that starts with # (35).
+-- whether a line is a comment: it is empty, or it starts with # (35)
 unfoldable pub isComment : List ℕ → Bool
 isComment [] = true
 isComment (b ∷ bs) = eqb b 35
@@ -31,8 +31,8 @@ isComment (b ∷ bs) = eqb b 35
 abbrev pub mostBytes : ℕ
 mostBytes = 65_536
 
--- A line is a call if its first word is a name, every word after it is a number, and these numbers have the shape of
--- the call.
+-- What a line says, by its name and its numbers. It is a call if its first word is a name, every word after it is a
+-- number, and these numbers have the shape of the call.
 unfoldable pub callWith : Option Naming → Option (List ℕ) → Meaning
 callWith none ns = no-call
 callWith (some x) none = no-call
@@ -44,7 +44,7 @@ meaningOf line =
     pick (isComment line) comment
     (pick (ltb mostBytes (length line)) no-call (callWith (namingOf (firstWord line)) (numbersOf (furtherWords line))))
 
--- what a line is; a call has the number of its arguments
+-- what a line is: a call with the number of its arguments, a comment, or no call
 unfoldable pub lineOf : Meaning → Line
 lineOf (call name shape ns) = Call name shape (length ns)
 lineOf comment = Comment
@@ -55,12 +55,12 @@ unfoldable pub ifNumber : Option ℕ → List ℕ → List ℕ
 ifNumber none ns = []
 ifNumber (some n) ns = n ∷ ns
 
--- the numbers that words are, up to the first word that is no number
+-- the numbers of a list of words, up to the first word that is no number
 unfoldable pub numbersAhead : List (List ℕ) → List ℕ
 numbersAhead [] = []
 numbersAhead (w ∷ ws) = ifNumber (numberOf w) (numbersAhead ws)
 
--- no numbers are read if no call is named
+-- the numbers that are read, or none if no call is named
 unfoldable pub ifNamed : Option Naming → List ℕ → List ℕ
 ifNamed none ns = []
 ifNamed (some x) ns = ns
@@ -71,8 +71,9 @@ numbersRead line =
     pick (isComment line) []
     (pick (ltb mostBytes (length line)) [] (ifNamed (namingOf (firstWord line)) (numbersAhead (furtherWords line))))
 
--- The answer is what the line says. The numbers that were read from it stand in the first places, as many as there are
--- places for, and every other place is as it was. If the line is a call, these numbers are its arguments.
+-- A line was read. The answer is what the line says. The numbers that were read from it are in the first places, as
+-- many as there are places for, and every other place is as it was. If the line is a call, these numbers are its
+-- arguments.
 pub record Understood (line places after : List ℕ) (r : Line) : Type 0 where
   pub answer : r ≡ lineOf (meaningOf line)
   pub numbers : after ≡ sets places 0 (numbersRead line)

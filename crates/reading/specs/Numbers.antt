@@ -22,14 +22,14 @@ unfoldable pub valueFrom : ℕ → List ℕ → ℕ
 valueFrom v [] = v
 valueFrom v (b ∷ bs) = valueFrom (v * 10 + (b - 48)) bs
 
--- the value of a word of digits
+-- D1, Days and units: the value of a word of digits, in base ten
 abbrev pub valueOf : List ℕ → ℕ
 valueOf w = valueFrom 0 w
 
--- A number is one or more digits whose value fits 64 bits. It may have zeros in front.
+-- whether a word is a number: it is one or more digits whose value fits 64 bits, and it may have zeros in front
 abbrev pub isNumber : List ℕ → Bool
 isNumber w = ltb 0 (length w) && (onlyDigits w && ltb (valueOf w) (2 ^ 64))
 
--- the number that a word is, if it is one
+-- the number that a word is, if it is a number
 unfoldable pub numberOf : List ℕ → Option ℕ
 numberOf w = pick (isNumber w) (some (valueOf w)) none

@@ -1,4 +1,4 @@
--- The words of a line, which stand between single spaces.
+-- The words of a line, which are separated by single spaces.
 use Prim.Native.Nat.{ℕ}
 use mathlib.Core.List.{List, [], _∷_}
 use lib.Dec.{eqb}
@@ -15,7 +15,7 @@ unfoldable pub furtherWords : List ℕ → List (List ℕ)
 furtherWords [] = []
 furtherWords (b ∷ bs) = pick (eqb b space) (firstWord bs ∷ furtherWords bs) (furtherWords bs)
 
--- The words of a line. Exactly one space stands between two words. So a space at either end, or a second space, makes
+-- The words of a line. There is exactly one space between two words. So a space at either end, or a second space, makes
 -- an empty word, which is neither a name nor a number.
 unfoldable pub wordsOf : List ℕ → List (List ℕ)
 wordsOf bs = firstWord bs ∷ furtherWords bs

@@ -1,6 +1,6 @@
--- The refusals of Enter, Cancel, Deliver, Offer, Close and Again: from the input, on the obligation that was fetched, and
--- by the next clearing day. Here too is what a call that names an obligation comes to, and the condition on the first day
--- of an Open.
+-- The refusals of Enter, Cancel, Deliver, Offer, Close and Again: by what the call is given, on the obligation that was
+-- fetched, and by the next clearing day. This file also has the outcome of a call that names an obligation, and the
+-- condition on the first day of an Open.
 use Prim.Native.Nat.{ℕ}
 use mathlib.Core.Bool.{Bool, true, false, _||_, not}
 use mathlib.Core.List.{List, [], _∷_, _++_}
@@ -26,32 +26,34 @@ use Rattle.ledger.specs.Ledger.{mostSupplier}
 use Rattle.netting.specs.Accounts.{noMember}
 
 -- ---- calls that name an obligation
--- A4 and R13, Refusals: the obligation is fetched after the refusals of the input. If it is absent, 13 holds, and there
--- is nothing else to refuse by. If it was found, 13 does not hold, and the further refusals are conditions on it.
+-- A4 and R13, Refusals: the obligation is fetched after the refusals by what the call is given were tested. If it is
+-- absent, 13 holds, and nothing else is tested. If it was found, 13 does not hold, and the further refusals are
+-- conditions on it.
 abbrev pub fetchRefusals : List Refusal → Fetched → (Obligation → List Refusal) → List Refusal
 fetchRefusals input Absent on = input ++ refuse 13 true ∷ []
 fetchRefusals input (Found o) on = input ++ refuse 13 false ∷ on o
 
--- A4 and A5, Refusals: the outcome by the answer of the fetch. If the obligation is absent, the call is refused. If it
--- was found, the call is done on it or refused.
+-- A4 and A5, Refusals: the outcome by what was fetched. If the obligation is absent, the call is refused. If it was
+-- found, the call is done on it or refused.
 unfoldable pub fetchOutcome : {A : Type 0} → List Refusal → Fetched → (Obligation → List Refusal) → (Obligation → A) → (ℕ → A) → A
 fetchOutcome input Absent on done refused = refused (answer (fetchRefusals input Absent on))
 fetchOutcome input (Found o) on done refused = outcome (answer (fetchRefusals input (Found o) on)) (done o) refused
 
 -- ---- Open and Enter
--- R11, Refusals, of Open: the first day does not clear or is above 65,535
+-- R11, Refusals: Open is refused if the first day is no clearing day or is above 65,535
 abbrev pub badFirst : ClosedDays → Day → Bool
 badFirst closedDays first = ltb lastDay (first .0) || not (clearing (listedDays closedDays) first)
 
--- R1, Refusals, of Enter: a member is above 31, both members are the same, or the side is above 1
+-- R1, Refusals: Enter is refused if a member is above 31, if both members are the same, or if the side is above 1
 abbrev pub badParties : ℕ → ℕ → ℕ → Bool
 badParties member other side = noMember member || (noMember other || (eqb member other || ltb 1 side))
 
--- R11, Refusals, of Enter: J does not clear, is before today or is above 60,000
+-- R11, Refusals: Enter is refused if J is no clearing day, is before today or is above 60,000
 abbrev pub badDay : ClosedDays → Day → Day → Bool
 badDay closedDays today j = not (clearing (listedDays closedDays) j) || (ltb (j .0) (today .0) || ltb latestDay (j .0))
 
--- A7, Refusals, of Enter: in a book with these closed days, this day and this many legs
+-- A7, R1 to R3, R11 and R12, Refusals: the refusals of Enter, in a book with these closed days, on this day and with
+-- this many legs
 unfoldable pub enterRefusals : ClosedDays → Day → ℕ → Leg → List Refusal
 enterRefusals closedDays today legs new =
     refuse 1 (badParties (new .member) (new .other) (new .side))
@@ -62,11 +64,11 @@ enterRefusals closedDays today legs new =
     ∷ []
 
 -- ---- Cancel
--- A9 and R1, Refusals, of Cancel from its input
+-- A9 and R1, Refusals: the refusals of Cancel by what it is given
 abbrev pub cancelRefusalsIn : ℕ → List Refusal
 cancelRefusalsIn member = refuse 1 (noMember member) ∷ []
 
--- A9, R14 and R15, Refusals, of Cancel on the obligation that was found
+-- A9, R14 and R15, Refusals: the refusals of Cancel on the obligation that was found
 unfoldable pub cancelRefusalsOf : Obligation → ℕ → List Refusal
 cancelRefusalsOf o member =
     refuse 14 (not (isParty o member) || hasWished o member)
@@ -74,11 +76,12 @@ cancelRefusalsOf o member =
     ∷ []
 
 -- ---- Deliver
--- A10 and R2, Refusals, of Deliver from its input
+-- A10 and R2, Refusals: the refusals of Deliver by what it is given
 abbrev pub deliverRefusalsIn : ℕ → List Refusal
 deliverRefusalsIn q = refuse 2 (outside 1 mostQuantity q) ∷ []
 
--- A10, R15 and R16, Refusals, of Deliver on the obligation that was found
+-- V5, Deliver; A10, R15 and R16, Refusals: the refusals of Deliver on the obligation that was found. Its age is not
+-- asked for, so a delivery is taken at every age from J on.
 unfoldable pub deliverRefusalsOf : Day → Obligation → ℕ → List Refusal
 deliverRefusalsOf today o q =
     refuse 15 (ltb (o .parts .outstanding) q)
@@ -86,7 +89,7 @@ deliverRefusalsOf today o q =
     ∷ []
 
 -- ---- Offer
--- A11 and R1 to R3, Refusals, of Offer from its input
+-- A3, A11 and R1 to R3, Refusals: the refusals of Offer by what it is given
 unfoldable pub offerRefusalsIn : ℕ → ℕ → ℕ → List Refusal
 offerRefusalsIn supplier q price =
     refuse 1 (ltb mostSupplier supplier)
@@ -94,7 +97,8 @@ offerRefusalsIn supplier q price =
     ∷ refuse 3 (outside 1 mostOfferPrice price)
     ∷ []
 
--- A11 and R15 to R18, Refusals, of Offer on the obligation that was found, with its age, in a book with this many offers
+-- A3, A11 and R15 to R18, Refusals: the refusals of Offer on the obligation that was found, with its age, in a book
+-- with this many offers
 unfoldable pub offerRefusalsOf : Terms → Day → ℕ → ℕ → Obligation → ℕ → List Refusal
 offerRefusalsOf terms today age offers o price =
     refuse 15 (eqb (o .parts .outstanding) 0)
@@ -104,24 +108,25 @@ offerRefusalsOf terms today age offers o price =
     ∷ []
 
 -- ---- Close
--- R3, Refusals, of Close: the price is 0 or above 150,000, or the rate is above 100
+-- R3, Refusals: Close is refused if the price is 0 or above 150,000, or if the rate is above 100
 abbrev pub badRates : ℕ → ℕ → Bool
 badRates price rate = outside 1 mostClosePrice price || ltb mostRate rate
 
--- R5, Refusals, of Close and of Again: the list has too few words
+-- R5, Refusals: Close and Again are refused if the list has too few words
 abbrev pub isShort : ℕ → Bool
 isShort words = ltb words fewestWords
 
--- A12, R3 and R5, Refusals, of Close from its input, with this many words lent
+-- A12, R3 and R5, Refusals: the refusals of Close by what it is given, with this many words lent
 unfoldable pub closeRefusalsIn : ℕ → ℕ → ℕ → List Refusal
 closeRefusalsIn price rate words = refuse 3 (badRates price rate) ∷ refuse 5 (isShort words) ∷ []
 
--- A12 and R20, Refusals, of Close: by the next clearing day after today. If there is none, 20 holds.
+-- A12 and R20, Refusals: the refusals of Close, by the next clearing day after today. If there is none, 20 holds.
 unfoldable pub closeRefusals : ℕ → ℕ → ℕ → NextDay → List Refusal
 closeRefusals price rate words Never = closeRefusalsIn price rate words ++ refuse 20 true ∷ []
 closeRefusals price rate words (At next) = closeRefusalsIn price rate words ++ refuse 20 false ∷ []
 
 -- ---- Again
--- A17, R5 and R22, Refusals, of Again: by whether a Close was accepted since Open, with this many words lent
+-- A17, R5 and R22, Refusals: the refusals of Again, by whether a Close was accepted since Open, with this many words
+-- lent
 unfoldable pub againRefusals : Bool → ℕ → List Refusal
 againRefusals closed words = refuse 5 (isShort words) ∷ refuse 22 (not closed) ∷ []

@@ -21,7 +21,7 @@ keptLine l = record {
   obligation = l .obligation;
 }
 
--- N2, Again: the line that is kept
+-- N2, Again: the line of a Close, from its numbers as they are kept
 abbrev pub lineOf : KeptLine → Line
 lineOf k = record {
   kind = k .kind;
@@ -32,7 +32,7 @@ lineOf k = record {
   price = k .price;
 }
 
--- this fills a free row
+-- what fills a free row among the lines that are kept
 abbrev pub noLine : KeptLine
 noLine = record { cents = 0; quantity = 0; price = 0; kind = 0; supplier = 0; obligation = 0 }
 
@@ -50,7 +50,7 @@ pub record Keepable (count : ℕ) (ws : List ℕ) : Type 0 where
   pub long : wordsInLine * count ≤ length ws
   pub sound : Every SoundLine (linesRead count ws)
 
--- what holds of the lines that any book keeps
+-- O9, Open: what holds of the lines that any book keeps
 pub record ValidLast (k : LastClose) : Type 0 where
   pub size : length (k .rows) ≡ mostLines
   pub few : k .count ≤ mostLines

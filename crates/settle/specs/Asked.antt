@@ -29,8 +29,8 @@ nothingAsked line = record {
   fill = 0;
 }
 
--- A call by its numbers. Its list stands among them from one place up to another, and a number of words are lent to it
--- that are filled with a value.
+-- A call by its numbers. Its list is among them from one place up to another, and it is lent a number of words that are
+-- filled with a value.
 abbrev pub askedWith : Line → List ℕ → ℕ → ℕ → ℕ → ℕ → Asked
 askedWith line ns from to lent fill = record {
   line = line;
@@ -46,12 +46,12 @@ askedWith line ns from to lent fill = record {
   fill = fill;
 }
 
--- A call that is lent words. The last two of its numbers say how many words it is lent and with what value they are
+-- A call that is lent words. The last two of its numbers say how many words it is lent and with which value they are
 -- filled.
 abbrev pub askedLent : Line → List ℕ → ℕ → ℕ → ℕ → Asked
 askedLent line ns from to count = askedWith line ns from to (getD ns (count - 2) 0) (getD ns (count - 1) 0)
 
--- What a call asks, by its shape. Days follow the first three numbers. Amounts stand between the first number and the
+-- What a call asks, by its shape. Days follow the first three numbers. Amounts are between the first number and the
 -- last two.
 unfoldable pub askedCall : Name → Shape → ℕ → List ℕ → Asked
 askedCall name (Shape.Plain k) count ns = askedWith (Call name (Shape.Plain k) count) ns 0 0 0 0
@@ -59,13 +59,13 @@ askedCall name Shape.Days count ns = askedWith (Call name Shape.Days count) ns 3
 askedCall name (Shape.Lent k) count ns = askedLent (Call name (Shape.Lent k) count) ns 0 0 count
 askedCall name Shape.Amounts count ns = askedLent (Call name Shape.Amounts count) ns 1 (count - 2) count
 
--- what a line asks, given the buffer for numbers, where those of the line stand first
+-- what a line asks, given the buffer for numbers, in which those of the line come first
 unfoldable pub askedOf : Line → List ℕ → Asked
 askedOf (Call name shape count) ns = askedCall name shape count ns
 askedOf Comment ns = nothingAsked Comment
 askedOf NoCall ns = nothingAsked NoCall
 
--- The buffer for numbers after bytes of a line were taken. If the line has ended, its numbers now stand first.
+-- The buffer for numbers after bytes of a line were taken. If the line has ended, its numbers now come first.
 unfoldable pub noted : Taken → List ℕ → List ℕ → List ℕ
 noted t line ns = pick (t .ends) (sets ns 0 (numbersRead (take (t .size) line))) ns
 
@@ -74,7 +74,7 @@ unfoldable pub asks : Taken → List ℕ → List ℕ → Asked
 asks t line ns =
     pick (t .ends) (askedOf (lineOf (meaningOf (take (t .size) line))) (noted t line ns)) (nothingAsked Comment)
 
--- A call's list lies within its numbers, and no more words are lent than a list may have.
+-- A call's list is within its numbers, and no more words are lent than a list may have.
 pub record Listed (a : Asked) (numbers : List ℕ) : Type 0 where
   pub begins : a .from ≤ a .to
   pub ends : a .to ≤ length numbers

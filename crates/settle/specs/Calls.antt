@@ -1,5 +1,5 @@
--- The calls that lines ask for: the book that each hands back, if it takes one, and its answer. The arguments are in
--- the order of docs/JOURNAL.md, Lines in, and the results are in the order of its chapter Lines out.
+-- The calls that lines ask for: the book that each returns, if it takes one, and its answer. The arguments are in the
+-- order of docs/JOURNAL.md, Lines in, and the results are in the order of its chapter Lines out.
 use Prim.Native.Nat.{ℕ}
 use mathlib.Core.Path.{_≡_}
 use mathlib.Core.List.{List, [], _∷_, _++_}
@@ -29,23 +29,23 @@ use Rattle.reading.specs.declared.Name.{Name}
 use Rattle.settle.specs.declared.calls.Asked.{Asked}
 use Rattle.settle.specs.declared.calls.Played.{Played}
 
--- a book and an answer
+-- a book and an answer, put together
 abbrev pub playedWith : Book → Answer → Played
 playedWith b answer = record { book = b; answer = answer }
 
--- what comes of an Open
+-- what comes of an Open, as the rules give it
 abbrev pub openedWith : Opening → Opened
 openedWith o = opened (o .first) (o .closed) (o .terms)
 
--- an Open that is refused, since no terms have the number 2
+-- the Open whose book is there before the first `open`; it is refused, since no terms have the number 2
 abbrev pub refusedOpening : Opening
 refusedOpening = record { first = day 0; closed = []; terms = 2 }
 
--- before the first line: the book that a refused Open returns, and no answer
+-- what is there before the first line: the book that a refused Open returns, and no answer
 abbrev pub atFirst : Played
 atFirst = playedWith (openedWith refusedOpening .book) nothing
 
--- the list that stands among a call's numbers
+-- the list that is among a call's numbers
 abbrev pub listIn : Asked → List ℕ → List ℕ
 listIn a ns = between (a .from) (a .to) ns
 
@@ -53,11 +53,11 @@ listIn a ns = between (a .from) (a .to) ns
 abbrev pub lentTo : Asked → List ℕ
 lentTo a = replicate (a .lent) (a .fill)
 
--- the words that can be lent, after a call left those that it was lent as these; the others are as they were
+-- the words that can be lent, after a call: those that it was lent as it left them, and the others as they were
 abbrev pub leftWith : Asked → List ℕ → List ℕ → List ℕ
 leftWith a lent ws = lent ++ drop (a .lent) ws
 
--- how the outcome of a call is told: by numbers, by lines in the words that it was lent, or by payouts in these
+-- how the outcome of a call is told: by numbers, by lines in the words that it was lent, or by payouts in these words
 pub data Manner : Type 0 where
   by-numbers : Manner
   by-lines : Manner
@@ -74,23 +74,23 @@ pub data Request : Type 0 where
   a-call : Asking → Request
   neither : Request
 
--- open: first day, terms, closed days
+-- what an `open` asks for: an Open with a first day, terms and closed days
 abbrev pub openAsked : Asked → List ℕ → Opening
 openAsked a ns = record { first = day (a .first); closed = listIn a ns; terms = a .second }
 
--- a call that is answered by numbers
+-- a request for a call that is answered by numbers
 abbrev pub plain : Call → Request
 plain c = a-call (record { call = c; manner = by-numbers })
 
--- a close, which is lent words for its lines
+-- what a `close` asks for: a Close that is lent words for its lines
 abbrev pub closeAsked : Asked → Asking
 closeAsked a = record { call = Call.close (a .first) (a .second) (lentTo a); manner = by-lines }
 
--- an again, which is lent words for the lines as a close is
+-- what an `again` asks for: an Again that is lent words for its lines
 abbrev pub againAsked : Asked → Asking
 againAsked a = record { call = Call.again (lentTo a); manner = by-lines }
 
--- a month, which is lent words for its payouts
+-- what a `month` asks for: a Month that is lent words for its payouts
 abbrev pub monthAsked : Asked → List ℕ → Asking
 monthAsked a ns = record { call = Call.month (listIn a ns) (lentTo a); manner = by-payouts }
 
@@ -112,13 +112,13 @@ askingOf Name.Look a ns = neither
 askingOf Name.Target a ns = neither
 askingOf Name.Rules a ns = neither
 
--- the answer to a call: the answer number and the results, the lines, or the payouts
+-- the answer to a call, by the manner in which it is told: the answer number and the results, the lines, or the payouts
 unfoldable pub answerBy : Manner → Asked → Outcome → Answer
 answerBy by-numbers a o = numbersTold (o .answer ∷ o .results)
 answerBy by-lines a o = closedTold (o .answer) (getD (o .results) 0 0) (a .lent) (a .fill)
 answerBy by-payouts a o = wordsTold (o .answer ∷ []) (a .lent)
 
--- the words after a call
+-- the words that can be lent, after a call whose outcome is told in this manner
 unfoldable pub wordsBy : Manner → Asked → Outcome → List ℕ → List ℕ
 wordsBy by-numbers a o ws = ws
 wordsBy by-lines a o ws = leftWith a (o .words) ws
@@ -128,7 +128,7 @@ wordsBy by-payouts a o ws = leftWith a (o .words) ws
 abbrev pub afterCall : Book → Asked → Asking → Played
 afterCall b a k = playedWith (outcomeOf b (k .call) .book) (answerBy (k .manner) a (outcomeOf b (k .call)))
 
--- the words after a call
+-- the words that can be lent, after a call on a book
 abbrev pub wordsAfter : Book → Asked → Asking → List ℕ → List ℕ
 wordsAfter b a k ws = wordsBy (k .manner) a (outcomeOf b (k .call)) ws
 
@@ -144,7 +144,8 @@ opens a ns = afterOpen (openedWith (openAsked a ns))
 abbrev pub afterEnter : Entered → Played
 afterEnter r = playedWith (r .book) (numbersTold (r .answer ∷ r .leg ∷ r .obligation ∷ []))
 
--- enter: member, counterparty, side, quantity, amount, intended day
+-- the book and the answer after an enter, whose numbers are member, counterparty, side, quantity, amount and intended
+-- day
 abbrev pub enters : Book → Asked → Played
 enters b a = afterEnter (enter b (a .first) (a .second) (a .third) (a .fourth) (a .fifth) (day (a .sixth)))
 
@@ -172,7 +173,7 @@ shownAs r =
     ∷ r .parts .cancelled ∷ r .parts .outstanding
     ∷ [])
 
--- status: obligation
+-- the answer to a status, whose number is an obligation
 abbrev pub shows : Book → Asked → Answer
 shows b a = shownAs (status b (a .first))
 
@@ -180,7 +181,7 @@ shows b a = shownAs (status b (a .first))
 abbrev pub balanceAs : Balance → Answer
 balanceAs r = balanceTold (r .answer) (r .cents)
 
--- account: member
+-- the answer to an account, whose number is a member
 abbrev pub balances : Book → Asked → Answer
 balances b a = balanceAs (account b (a .first))
 
@@ -188,7 +189,8 @@ balances b a = balanceAs (account b (a .first))
 abbrev pub lookedAs : Looked → Answer
 lookedAs r = numbersTold (r .answer ∷ r .obligation ∷ [])
 
--- look: member. The rules may allow more than one answer, and this is one that they allow.
+-- The answer to a look, whose number is a member. The rules may allow more than one answer, and this is one that they
+-- allow.
 pub record LooksAs (b : Book) (a : Asked) (answer : Answer) : Type 0 where
   pub looked : Looked
   pub allowed : Looks b (a .first) looked
@@ -198,11 +200,11 @@ pub record LooksAs (b : Book) (a : Asked) (answer : Answer) : Type 0 where
 abbrev pub writtenAs : DaysWritten → ℕ → Answer
 writtenAs r lent = wordsTold (r .answer ∷ r .count ∷ []) lent
 
--- target: first year, last year
+-- the answer to a target, whose numbers are the first and the last year
 abbrev pub targets : Asked → Answer
 targets a = writtenAs (target (a .first) (a .second) (a .lent)) (a .lent)
 
--- the words after a target
+-- the words that can be lent, after a target
 abbrev pub wordsTargeted : Asked → List ℕ → List ℕ
 wordsTargeted a ws = leftWith a (targetWords (a .first) (a .second) (lentTo a)) ws
 

@@ -1,4 +1,4 @@
--- How a run ends, and what is written last (docs/JOURNAL.md, Lines out and What is no call).
+-- How a run ends, and what is written last (docs/JOURNAL.md, Lines out and What is not a call).
 use Prim.Native.Nat.{ℕ, _≤_}
 use mathlib.Core.Path.{_≡_}
 use mathlib.Core.List.{List, [], _++_}

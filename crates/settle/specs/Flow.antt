@@ -1,5 +1,5 @@
--- Bytes in and out: where the input and the output stand, and what reads and writes do to them. Which bytes a read
--- brings, and whether a write succeeds, is up to the operating system. (docs/JOURNAL.md, Input and output)
+-- Bytes in and out: how far the input and the output have come, and what reads and writes do to them. The operating
+-- system decides which bytes a read brings and whether a write succeeds (docs/JOURNAL.md, Input and output).
 use Prim.Native.Nat.{ℕ, zero, suc, _-_, _≤_, min}
 use mathlib.Core.Path.{_≡_}
 use mathlib.Core.Bool.{true, false}
@@ -24,7 +24,7 @@ use Rattle.settle.specs.declared.flow.Flow.{Flow}
 abbrev pub flowAt : Feed → ℕ → Course → Flow
 flowAt feed end course = record { feed = feed; end = end; course = course }
 
--- before anything is read or written
+-- the flow before anything is read or written
 abbrev pub atStart : Flow
 atStart = flowAt input.atStart 0 Going
 
@@ -35,7 +35,7 @@ readOf (negsuc n) most = Error
 readOf (pos zero) most = Nothing
 readOf (pos (suc n)) most = Bytes (min (suc n) most)
 
--- The run has failed: no more of the bytes that were read are taken, and no answer waits to be written.
+-- The flow of a run that has failed: no more of the bytes that were read are taken, and no answer waits to be written.
 abbrev pub failedFrom : Feed → Flow
 failedFrom f = flowAt (droppedFrom f) 0 Failed
 
@@ -66,12 +66,12 @@ pub data FedOn (f : Flow) (places : ℕ) (part after : List ℕ) : Flow → Type
   -- all is used up: the write failed
   unfed : usedUp (f .feed) ≡ true → after ≡ part → FedOn f places part after (failedFrom (f .feed))
 
--- bytes of the current line were taken, and they stand in the line's buffer
+-- bytes of the current line were taken, and they are in the line's buffer
 pub record TakenOn (f : Flow) (part line after : List ℕ) (r : Taken) : Type 0 where
   pub took : r ≡ takenOf (f .feed) part (length line)
   pub held : after ≡ sets line (f .feed .held) (ahead (f .feed) part)
 
--- The text of an answer was put into the output. The input stands after the bytes that were taken, and the course of
+-- The text of an answer was put into the output. The input continues after the bytes that were taken, and the course of
 -- the run is the same as before.
 pub record ToldOn (f : Flow) (t : Taken) (text out after : List ℕ) (r : Flow) : Type 0 where
   pub wrote : Wrote text out (f .end) after (r .end)

@@ -26,8 +26,9 @@ withRequest (an-open o) j = record { opening = o; calls = [] }
 withRequest (a-call k) j = record { opening = j .opening; calls = k .call ∷ j .calls }
 withRequest neither j = j
 
--- The journal of lines, by what they say, the latest first. Before the first open it has a refused Open and the calls of
--- all lines.
+-- The journal of lines, by what they say, the latest first. Before the first open it has a refused Open and the calls
+-- of all lines. `held-promised` in settle/proofs/Journals.antt proves that the book that the program holds is the one
+-- to which the journal of the played lines leads, and that the promise on whole journals holds of this run.
 unfoldable pub journalOf : List Meaning → Journal
 journalOf [] = record { opening = refusedOpening; calls = [] }
 journalOf (line ∷ earlier) = withRequest (requestOf line) (journalOf earlier)

@@ -70,12 +70,12 @@ unfoldable pub readIn : {first h : Held} {n : ℕ} → Reached first n h → Lis
 readIn start = []
 readIn (turn r t) = readIn r ++ readBy (t .feeds)
 
--- the lines that were played, the latest first
+-- the lines that were played in a run, the latest first
 unfoldable pub playedIn : {first h : Held} {n : ℕ} → Reached first n h → List (List ℕ)
 playedIn start = []
 playedIn (turn {n} {h} {after} r t) = pick (t .taken .ends) (take (t .taken .size) (after .line) ∷ playedIn r) (playedIn r)
 
--- the numbers that the system answered to reads, the latest first
+-- the numbers that the system answered to reads in a run, the latest first
 unfoldable pub answeredIn : {first h : Held} {n : ℕ} → Reached first n h → List ℤ
 answeredIn start = []
 answeredIn (turn r t) = answeredBy (t .feeds) ++ answeredIn r
@@ -90,7 +90,7 @@ unfoldable pub writtenIn : {first h : Held} {n : ℕ} → Reached first n h → 
 writtenIn start = []
 writtenIn (turn {h = h} r t) = writtenIn r ++ writtenBy (h .out) (t .feeds)
 
--- the text of the answers to the lines that were played
+-- the text of the answers to the lines that were played in a run
 unfoldable pub answersIn : {first h : Held} {n : ℕ} → Reached first n h → List ℕ
 answersIn start = []
 answersIn (turn {after = after} r t) = answersIn r ++ answerText (t .answer) (t .taken .feed .ended) (after .words)
@@ -99,10 +99,10 @@ answersIn (turn {after = after} r t) = answersIn r ++ answerText (t .answer) (t 
 abbrev pub heldText : {first h : Held} {n : ℕ} → Reached first n h → Cut
 heldText {first} {h} r = record { ended = playedIn r; rest = take (h .flow .feed .held) (h .line) }
 
--- The lines that were played are those of the text. Some of the text that was read is taken, and the rest is not: it
--- waits to be taken, or it is dropped because the run has failed. If the taken text is cut into lines, these are the
--- lines that were played and the bytes of the current line. Of a line that is longer than its buffer, the program has
--- only the bytes that fit.
+-- The lines that were played are those of the text; `reached-follows` in settle/proofs/Texts.antt proves it. Some of
+-- the text that was read is taken, and the rest is not: it waits to be taken, or it is dropped because the run has
+-- failed. If the taken text is cut into lines, these are the lines that were played and the bytes of the current line.
+-- Of a line that is longer than its buffer, the program has only the bytes that fit.
 pub record Follows {first h : Held} {n : ℕ} (r : Reached first n h) : Type 0 where
   pub read : h .flow .feed .to ≤ length (h .part)
   pub held : h .flow .feed .held ≤ length (h .line)
@@ -112,9 +112,9 @@ pub record Follows {first h : Held} {n : ℕ} (r : Reached first n h) : Type 0 w
   pub waits : (h .flow .course ≡ Failed) ⊎ (left ≡ unread (h .flow .feed) (h .part))
   pub cuts : heldText r ≡ cutTo (length (h .line)) (withBytes uncut taken)
 
--- A run is complete: the system answered the last read with 0, no read and no write has failed, the lines that were
--- played and the bytes of a torn last line are those of the whole text, the lines are counted right, and every answer
--- was handed to a write.
+-- A run is complete; `over-complete` in settle/proofs/Completing.antt proves it of every run whose input is over. The
+-- system answered the last read with 0, no read and no write has failed, the lines that were played and the bytes of a
+-- torn last line are those of the whole text, the lines are counted right, and every answer was handed to a write.
 pub record Complete {first h : Held} {n : ℕ} (r : Reached first n h) : Type 0 where
   pub earlier : List ℤ
   pub over : answeredIn r ≡ pos 0 ∷ earlier
@@ -123,10 +123,10 @@ pub record Complete {first h : Held} {n : ℕ} (r : Reached first n h) : Type 0 
   pub count : linesOf (h .flow .feed) ≡ linesIn (withBytes uncut (readIn r))
   pub told : writtenIn r ≡ answersIn r
 
--- What was handed to writes in all, by how the run went; `last` is what is written after the last turn. If the turns
--- ran out, it was the answers and nothing else. If the input was over, it was the answers, the answer to a torn last
--- line, and the line `end`, and then the run is complete. If the run has failed, nothing is written after the last
--- turn.
+-- What was handed to writes in all, by how the run went; `all-handed` in settle/proofs/Completing.antt proves it.
+-- `last` is what is written after the last turn. If the turns ran out, it was the answers and nothing else. If the
+-- input was over, it was the answers, the answer to a torn last line, and the line `end`, and then the run is complete.
+-- If the run has failed, nothing is written after the last turn.
 pub record Handed {first h : Held} {n : ℕ} (r : Reached first n h) (last : List ℕ) : Type 0 where
   pub going : h .flow .course ≡ Going → writtenIn r ++ last ≡ answersIn r
   pub over : h .flow .course ≡ Over → (writtenIn r ++ last ≡ answersIn r ++ overText (h .flow .feed) (h .line)) × Complete r

@@ -50,7 +50,7 @@ pub data Gives (b : Book) (a : Asked) (ns ws : List ℕ) : Line → Played → L
   passing : Gives b a ns ws Comment (playedWith b nothing) ws
   objecting : Gives b a ns ws NoCall (playedWith b noCall) ws
 
--- what the program holds between two turns: the book, where the input and the output stand, and the buffers
+-- what the program holds between two turns: the book, how far the input and the output have come, and the buffers
 pub record Held : Type 0 where
   pub book : Book
   pub flow : Flow
@@ -87,7 +87,7 @@ begins part line numbers words out = record {
   out = out;
 }
 
--- the program holds this after this number of turns
+-- what the program holds after this number of turns
 pub data Reached (first : Held) : ℕ → Held → Type 0 where
   start : Reached first 0 first
   turn : {n : ℕ} {h after : Held} → Reached first n h → Turn h after → Reached first (suc n) after

@@ -7,8 +7,8 @@ use lib.Seq.{sets}
 use Rattle.writing.specs.Digits.{digitsOf}
 use Rattle.writing.specs.Words.{joined}
 
--- Bytes are written at a place of the output. They stand there, every other byte is as it was, and the next place is
--- the one after them.
+-- Bytes were written at a place of the output. They are there, every other byte is as it was, and the next place is the
+-- one after them.
 pub record Wrote (bytes out : List ℕ) (at : ℕ) (after : List ℕ) (next : ℕ) : Type 0 where
   pub stands : after ≡ sets out at bytes
   pub place : next ≡ at + length bytes
@@ -17,11 +17,11 @@ pub record Wrote (bytes out : List ℕ) (at : ℕ) (after : List ℕ) (next : �
 abbrev pub lineFeed : ℕ
 lineFeed = 10
 
--- numbers, with one space between two
+-- the text of numbers, with one space between two
 unfoldable pub textOf : List ℕ → List ℕ
 textOf ns = joined (map digitsOf ns)
 
--- an answer: its numbers, and a line feed
+-- the text of an answer: its numbers, and a line feed
 unfoldable pub answerOf : List ℕ → List ℕ
 answerOf ns = textOf ns ++ lineFeed ∷ []
 
@@ -29,7 +29,7 @@ answerOf ns = textOf ns ++ lineFeed ∷ []
 unfoldable pub labelled : List ℕ → ℕ → List ℕ
 labelled label n = label ++ digitsOf n ++ lineFeed ∷ []
 
--- the answer to a line that is no call: `? line N` (docs/JOURNAL.md, What is no call)
+-- the answer to a line that is no call: `? line N` (docs/JOURNAL.md, What is not a call)
 unfoldable pub noCallOf : ℕ → List ℕ
 noCallOf n = labelled (63 ∷ 32 ∷ 108 ∷ 105 ∷ 110 ∷ 101 ∷ 32 ∷ []) n
 

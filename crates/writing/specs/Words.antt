@@ -6,12 +6,12 @@ use mathlib.Core.List.{List, [], _∷_, _++_}
 abbrev pub space : ℕ
 space = 32
 
--- words, with a space in front of each
+-- the text of words, with a space in front of each
 unfoldable pub spaced : List (List ℕ) → List ℕ
 spaced [] = []
 spaced (w ∷ ws) = space ∷ w ++ spaced ws
 
--- words, with one space between two
+-- the text of words, with one space between two
 unfoldable pub joined : List (List ℕ) → List ℕ
 joined [] = []
 joined (w ∷ ws) = w ++ spaced ws
