@@ -8,6 +8,7 @@ answers must be those of an undisturbed run, and every answer that was given bef
 Some journals are sent by three clients of a socket at once. They mark their calls, and after a fault they look for the
 mark before they send a call again."""
 import collections
+import contextlib
 import os
 import random
 import shutil
@@ -158,14 +159,21 @@ def with_fault(library, folder, trace, how, at):
             "FAULT_HOW": how, "FAULT_AT": str(at)}
 
 
+def settle_of(process):
+    """The settle of a keeper, as soon as there is one; none if the keeper has ended."""
+    children = Path(f"/proc/{process.pid}/task/{process.pid}/children")
+    while process.poll() is None:
+        if found := children.read_text().split():
+            return [int(found[0])]
+        time.sleep(0.005)
+    return []
+
+
 def kill(process, whom):
     """Kills a keeper or its settle, or tells the keeper to end."""
-    victims = [process.pid]
-    if whom == "settle":
-        children = Path(f"/proc/{process.pid}/task/{process.pid}/children")
-        victims = [int(child) for child in children.read_text().split()] if children.exists() else []
-    for victim in victims:
-        os.kill(victim, signal.SIGTERM if whom == "told" else signal.SIGKILL)
+    for victim in settle_of(process) if whom == "settle" else [process.pid]:
+        with contextlib.suppress(ProcessLookupError):
+            os.kill(victim, signal.SIGTERM if whom == "told" else signal.SIGKILL)
 
 
 class Trial:
