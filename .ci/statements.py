@@ -90,22 +90,28 @@ def contracts(path):
             yield match[3], [line.removeprefix(match[1]) for line in lines[start:end]]
 
 
+# What no fault has to break: how a call and a run are told; the words of a line, and the offers of which the clauses
+# beside them speak; and that code meets its contract, which each fault of that contract breaks.
+FREE = re.compile(r"(\w*Called|Ran|Purchase|Code)\..*|BoughtInTurn\.turns|Demand3\..*-code")
+
+
 def clauses():
-    """What a fault can break: each field of a record of the statement, and the contract of each function."""
-    names = []
+    """What a fault can break, and whether a fault has to: the fields of a record of the statement and the cases of a
+    type there, as in Promise.zero-sum; what is a name for other clauses, as EveryMonth, which no fault has to; and the
+    contract of each function, as Book::close."""
+    found = {}
     for path in STATEMENT:
-        owner = None
         for line in statement(path):
-            if match := re.match(r"pub record (\S+)", line):
+            if match := re.match(r"(?:pub record|pub data|abbrev pub|unfoldable pub) (\S+)", line):
                 owner = match[1]
-            elif line and not line.startswith(" "):
-                owner = None
-            elif owner and (match := re.match(r"  pub (\S+) :", line)):
-                names.append(f"{owner}.{match[1]}")
+                found[owner] = False
+            elif match := re.match(r"  (?:pub )?([\w-]+) :", line):
+                name = f"{owner}.{match[1]}"
+                found[name] = not FREE.fullmatch(name)
     for path in CONTRACTS:
         owner = "Book::" if path.startswith("crates/book/") else ""
-        names += [owner + name for name, _ in contracts(path)]
-    return names
+        found.update({owner + name: True for name, _ in contracts(path)})
+    return found
 
 
 def edits(crate="*"):
