@@ -2,7 +2,7 @@
 """Random faults against host/keep: `.ci/campaign.py FAULTS [SEED]`. It keeps random journals, and while lines are sent
 it kills the keeper or its settle, lets a write, a sync or a rename fail, fills the disk, or ends the keeper at one of
 these calls; after some faults the power fails too, and what was not synced is lost. After each fault the one who sends
-looks into the journal and goes on behind its last line. In the end the journal must have each line once, in order, the
+looks into the journal and goes on after its last line. In the end the journal must have each line once, in order, the
 answers must be those of an undisturbed run, and every answer that was given before a fault must be among them.
 
 Some journals are sent by three clients of a socket at once. They mark their calls, and after a fault they look for the

@@ -6,7 +6,7 @@
 // FAULT_TRACE   the file of the trace: a line for each call with what it did and its result
 // FAULT_AT      the number of the call at which it happens, from 1 on; 0 for never
 // FAULT_HOW     kill: the program ends before the call; half: it ends in the middle of it, if it is a write; after: it
-//               ends behind it; error: the call does nothing and fails, once; full: half is written, and then the disk
+//               ends after it; error: the call does nothing and fails, once; full: half is written, and then the disk
 //               is full for good
 use std::ffi::{c_char, c_int, c_long, CStr};
 use std::sync::atomic::{AtomicBool, AtomicU64, Ordering};

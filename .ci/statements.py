@@ -1,5 +1,5 @@
-"""What the product promises, read from its sources: the statement on whole journals, the laws beside it, the contracts of
-the calls and of the program's loop, and the seeded faults."""
+"""What the product promises, read from its sources: the statement on whole journals, the laws beside it, the contracts
+of the calls and of the program's loop, and the seeded faults."""
 import re
 from pathlib import Path
 
@@ -47,8 +47,8 @@ def is_named(names, name):
 
 
 def uses(lines, text):
-    """The lines that say from which of our files the names in a text come. What the toolchain's library has is left out:
-    a name that comes from elsewhere than before then has a line more or less."""
+    """The lines that say from which of our files the names in a text come. Those of the toolchain's library are left
+    out: where a name comes from one of our files in its place, there is a line more."""
     words = set(re.findall(r"[^\s(){};,.]+", text))
     for line in lines:
         if match := re.fullmatch(r"((?:ghost )?use Rattle·\S+)\.\{(.*)\};?", line):
