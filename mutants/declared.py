@@ -83,14 +83,6 @@ class World:
                 name = name.strip()
                 self.crates[name] = Crate(self.root, name, needs.split())
 
-    def needed_by(self, name):
-        """The crates of the repository that a crate is built on, near and far."""
-        found = set()
-        for need in self.crates[name].needs:
-            if need in self.crates and need not in found:
-                found |= {need} | self.needed_by(need)
-        return found
-
     def owner(self, file, path):
         """The crate that a path leads to, by its first name or by the file's `use` lines."""
         first = path[0]

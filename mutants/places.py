@@ -19,12 +19,12 @@ NUMBER = re.compile(r"(0x|0b|0o)?([0-9a-fA-F_]+?)([ui](?:8|16|32|64|size))?$")
 
 
 class Place:
-    """A part of a file's text and what may stand there instead: each of `news` is another change of the same place."""
+    """A part of a file's text and what may be there instead: each of `news` is another change of the same place."""
 
     def __init__(self, unit, kind, start, end, news, alters):
         self.unit, self.kind, self.start, self.end = unit, kind, start, end
         self.news, self.alters = news, alters
-        self.key = ""
+        self.name = ""
 
     @property
     def line(self):
@@ -40,26 +40,27 @@ class Place:
 
 
 class Unit:
-    """A function or a constant: what changes are drawn for."""
+    """A function or a constant: what changes are drawn for. Its mark is that of its text without comments, contract
+    and body."""
 
     def __init__(self, file, node, of):
         self.file, self.node, self.of = file, node, of
         self.crate = file.crate
         within = of or file.module
-        self.name = f"{within}::{node.name}" if within else node.name
+        self.name = f"{self.crate.name}/{within}::{node.name}" if within else f"{self.crate.name}/{node.name}"
         self.is_const = node.kind == "const"
         self.by_hand = not self.is_const and self.crate.has_proof_file(of, node.name)
-        self.text = file.text[node.start : node.end]
+        text = rattle.without_comments(file.text[node.start : node.end])
+        self.mark = hashlib.sha256(text.encode()).hexdigest()[:6]
         self.places = []
 
     def name_places(self):
         """Puts the places into the order of the text and names each by its kind and how many such come before it."""
         self.places.sort(key=lambda place: (place.start, place.end))
-        mark = hashlib.sha256(self.text.encode()).hexdigest()[:6]
         seen = {}
         for place in self.places:
             seen[place.kind] = seen.get(place.kind, 0) + 1
-            place.key = f"{self.crate.name}/{self.name}/{place.kind}-{seen[place.kind]}@{mark}"
+            place.name = f"{place.kind}-{seen[place.kind]}"
 
 
 class Local:
@@ -142,7 +143,7 @@ def leaves_needs(node):
 
 class Walk:
     """Goes through a function's body, with what its locals mean, and collects the places. It goes twice: what a local
-    means may be found behind its first uses."""
+    means may be found only after its first uses."""
 
     def __init__(self, world, unit):
         self.world, self.unit, self.file = world, unit, unit.file
@@ -197,7 +198,7 @@ class Walk:
         return found
 
     def operand(self, node):
-        """The node stands where another local may stand."""
+        """The node is where another local may be."""
         if node.kind == "lend":
             node = node.value
         local = self.local(node)

@@ -74,6 +74,15 @@ def tokens_of(text):
     return tokens
 
 
+def without_comments(text):
+    """A text without its comments, and with one space for each run of space."""
+    shown, end = "", 0
+    for token in tokens_of(text):
+        shown += (" " if end < token.start else "") + token.text
+        end = token.end
+    return shown
+
+
 def line_of(text, at):
     return text.count("\n", 0, at) + 1
 
