@@ -23,7 +23,7 @@ pub record FirstAfter (cs : List Day) (d e : ℕ) : Type 0 where
   pub first : NoneUpTo cs d (e - 1)
 
 module _ (cs : List Day) where
-  -- the first day after d does not clear: the rest follows from the days after it
+  -- the first day after d is not a clearing day: the rest follows from the days after it
   none-more : (d e : ℕ) → clearing cs (day (d + 1)) ≡ false → NoneUpTo cs (d + 1) e → NoneUpTo cs d e
   none-more d e q h x l m =
       ⊎-elim (λ (z : x < d + 2). let n : x ≡ d + 1 = omega arith in rw n q) (λ (z : d + 2 ≤ x). h x (omega arith) m) (below-or-not x (d + 2))

@@ -35,14 +35,14 @@ pub fn are_bad_parties(member: u64, other: u64, side: u64) -> bool
     LAST_MEMBER < member || (LAST_MEMBER < other || (member == other || 1 < side))
 }
 
-// Whether a first day is refused: it is above the last day, or it does not clear.
+// Whether a first day is refused: it is above the last day, or it is not a clearing day.
 pub fn is_bad_first(closed_days: ClosedDays, first: Day) -> bool
     ensures { λ r. ⌜ r ≡ badFirst «closed_days» first ⌝ }
 {
     LAST_DAY < first.0 || !closed_days.is_clearing(first)
 }
 
-// Whether a settlement day is refused: it does not clear, is before today or is above the latest day.
+// Whether a settlement day is refused: it is not a clearing day, is before today or is above the latest day.
 fn is_bad_day(closed_days: ClosedDays, today: Day, day: Day) -> bool
     ensures { λ r. ⌜ r ≡ badDay «closed_days» today day ⌝ }
 {
