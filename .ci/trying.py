@@ -1,6 +1,5 @@
 """What the tests of the programs share: where the programs are, how one is run, how two things are compared, and how a
 list of tests is gone through. Each test is a function whose first line says what it tests. Every wait has a limit."""
-import os
 import signal
 import subprocess
 import sys
