@@ -39,11 +39,11 @@ def random_line(rng):
         f"enter {member} {other} 0 10 1000000 {day}", f"enter {other} {member} 1 10 1000000 {day}",
         f"enter 1 2 {rng.randrange(2)} 10 1000000 {day}", f"deliver {number} {rng.randrange(1, 4)}",
         f"offer {number} 17 2 {rng.randrange(99000, 102000)}", f"cancel {number} {member}",
-        f"withdraw {number} {member}",
-        f"close {rng.randrange(99000, 101000)} 10 1152 7", f"close 100000 10 1152 {number}", "again 1152 9",
-        "close 0 10 1152 7", "close 100000", "month 0 32 5", f"status {number}", f"account {member}", f"look {member}",
-        "rules", "target 2027 2028 12 0", "", "# a comment", "#" + "x" * rng.randrange(3000), "no call", "rules\r",
-        "\0\0", " # no comment",
+        f"withdraw {number} {member}", f"rate {day} {rng.randrange(102)}",
+        f"close {rng.randrange(99000, 101000)} 1152 7", f"close 100000 1152 {number}", "again 1152 9",
+        "close 0 1152 7", "close 100000 10 1152 7", "month 0 32 5", f"status {number}", f"account {member}",
+        f"look {member}", "rules", "target 2027 2028 12 0", "", "# a comment", "#" + "x" * rng.randrange(3000),
+        "no call", "rules\r", "\0\0", " # no comment",
     ]
     if rng.random() < 0.03:
         lines = ["target 2000 2000 4096 9", "look " + "0" * 60000, "#" + "y" * 70000, "z" * 66000]
@@ -52,7 +52,7 @@ def random_line(rng):
 
 def random_journal(rng):
     lines = [random_line(rng) for _ in range(rng.randrange(20, 90))]
-    return [b"rules\n", b"# a random journal\n", b"open 2 1 0\n"] + lines
+    return [b"rules\n", b"# a random journal\n", b"open 2 1 0\n", b"rate 2 10\n"] + lines
 
 
 def is_comment(line):
@@ -321,8 +321,9 @@ class Sender(threading.Thread):
 def sent_together(rng, work, library, counts):
     """Three clients send calls at once, and the keeper and its settle are killed meanwhile."""
     trial = Trial(rng, work, library, counts)
-    calls = ["status 0", "account 1", "close 100000 10 1152 7", "enter 1 2 0 10 1000000 9", "rules"]
-    senders = [Sender(trial, name, [rng.choice(calls) for _ in range(25)]) for name in ("room", "office", "treasury")]
+    calls = ["status 0", "account 1", "close 100000 1152 7", "enter 1 2 0 10 1000000 9", "rules"]
+    names = "room", "office", "treasury"
+    senders = [Sender(trial, name, ["rate 2 10"] + [rng.choice(calls) for _ in range(24)]) for name in names]
     faults = [rng.choice(HOWS + ("keeper", "settle")) for _ in range(4)] + [""]
     for sender in senders:
         sender.start()

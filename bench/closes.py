@@ -6,6 +6,7 @@ import sys
 members = 32
 for book in range(int(sys.argv[1])):
     print("open 2 0 0")
+    print("rate 2 10")
     for n in range(64):
         seller, buyer = n % members, (n + 1 + n // members) % members
         print(f"enter {seller} {buyer} 0 100000 {1000000 + n} 2")
@@ -14,5 +15,5 @@ for book in range(int(sys.argv[1])):
         if 30 < age:
             for n in range(64):
                 print(f"offer {n} {n} {1 + n} {100000 + 37 * n % 101}")
-        print("close 100000 10 1152 0")
+        print("close 100000 1152 0")
     print("status 0")

@@ -3,9 +3,13 @@ use std::hint::black_box;
 use std::time::Instant;
 
 // The bytes of a book as the engine lays it out: 128 legs, 64 obligations, 64 offers, 32 accounts, 192 lines of the latest
-// Close, closed days, terms, today and the two flags. A count comes after each array but the accounts.
-const BOOK: usize =
-    (128 * 32 + 8) + (64 * 56 + 8 + (64 * 12 + 8) + 256) + (192 * 24 + 8) + (64 * 8 + 8 + 24) + (8 + 8);
+// Close, 16 rates, closed days, terms, today and the two flags. A count comes after each array but the accounts.
+const BOOK: usize = (128 * 32 + 8)
+    + (64 * 56 + 8 + (64 * 12 + 8) + 256)
+    + (192 * 24 + 8)
+    + (16 * 4 + 8)
+    + (64 * 8 + 8 + 24)
+    + (8 + 8);
 
 #[inline(never)]
 fn through(book: [u8; BOOK]) -> [u8; BOOK] {

@@ -159,7 +159,7 @@ fn tells_book(played: &Played) -> bool {
             Call::Month { .. } => is_owed(played.accounts),
             Call::Account { member } => played.accounts[member as usize] != 0,
             Call::Look { member } => played.book.look(member) != Ok(0),
-            Call::Open { .. } | Call::Target { .. } | Call::Rules => false,
+            Call::Open { .. } | Call::Target { .. } | Call::Rate { .. } | Call::Rules => false,
         }
 }
 

@@ -90,7 +90,8 @@ fn limits(name: &str) -> &'static [u64] {
         "cancel" => &[63, 31],
         "deliver" => &[63, 100_000],
         "offer" => &[63, 999, 100_000, 200_000],
-        "close" => &[150_000, 100, 4_096, u64::MAX],
+        "close" => &[150_000, 4_096, u64::MAX],
+        "rate" => &[65_535, 100],
         "again" => &[4_096, u64::MAX],
         "target" => &[2_178, 2_178, 4_096, u64::MAX],
         "open" => &[65_535, 1],
@@ -148,7 +149,7 @@ impl<W: Write> Generator<W> {
         match self.random.below(6) {
             0 => self.random.pick(&[0, 1, 99, 100]),
             1 => self.random.between(0, 100),
-            _ => 10,
+            _ => self.random.between(8, 12),
         }
     }
 
@@ -485,7 +486,7 @@ impl<W: Write> Generator<W> {
             1..=9 => self.random.between(1_152, 1_300),
             _ => CLOSE_WORDS as u64,
         };
-        vec![self.price(), self.rate(), words, self.fill()]
+        vec![self.price(), words, self.fill()]
     }
 
     /// A list that mostly is long enough. The short ones like to be long enough for the lines that
@@ -579,6 +580,7 @@ impl<W: Write> Generator<W> {
             "month" => self.month_arguments(),
             "again" => self.again_arguments(),
             "target" => self.target_arguments(),
+            "rate" => self.rate_arguments(),
             "status" => vec![self.obligation() as u64],
             "rules" => vec![],
             _ => vec![self.party()],
@@ -597,6 +599,9 @@ impl<W: Write> Generator<W> {
     }
 
     pub fn plausible(&mut self, name: &str) -> io::Result<()> {
+        if name == "close" {
+            self.rows_before_close()?;
+        }
         let arguments = self.arguments(name);
         self.call(name, &arguments).map(|_| ())
     }
@@ -638,7 +643,8 @@ impl<W: Write> Generator<W> {
         }
         let mut arguments = self.arguments(name);
         let length = match name {
-            "close" | "target" => Some(2),
+            "target" => Some(2),
+            "close" => Some(1),
             "again" => Some(0),
             _ => None,
         };

@@ -5,6 +5,7 @@
 //! the book only when it is accepted. The call of P3 takes no book; it is in `holidays.rs`.
 
 use std::cmp::Reverse;
+use std::collections::BTreeMap;
 use std::ops::RangeInclusive;
 
 /// Rules, Month: thirty-two accounts, so members are 0 to 31.
@@ -19,6 +20,8 @@ pub const MAX_CLOSED_DAYS: usize = 64;
 pub const CLOSE_WORDS: usize = 1_152;
 /// Rules, Close: a line of six words.
 pub const LINE_WORDS: usize = 6;
+/// P5: a book keeps up to 16 rows.
+pub const MAX_ROWS: usize = 16;
 /// Rules, Days and units: days run to 65,535.
 pub const LAST_DAY: u64 = 65_535;
 /// Rules, Refusals, 11: J above 60,000.
@@ -333,6 +336,8 @@ pub struct Book {
     pub closed_since_month: bool,
     /// P1: the lines of the latest accepted Close, if there was one since Open.
     pub last_close: Option<Vec<Line>>,
+    /// P5: the rate of each row by its starting day.
+    pub rows: BTreeMap<u64, u64>,
 }
 
 impl Book {
@@ -347,6 +352,7 @@ impl Book {
             accounts: [0; MEMBERS],
             closed_since_month: false,
             last_close: None,
+            rows: BTreeMap::new(),
         }
     }
 
@@ -515,11 +521,31 @@ impl Book {
         Ok(())
     }
 
-    /// Rules, Close: the number of lines.
-    pub fn close(&mut self, price: u64, rate: u64, list: &mut [u64]) -> Result<usize, Refusal> {
-        refuse_if(3, !CLOSE_PRICES.contains(&price) || rate > MAX_RATE)?;
+    /// P5, Rate: a row for a starting day. If one is held for that day, it is superseded.
+    pub fn rate(&mut self, day: u64, rate: u64) -> Result<(), Refusal> {
+        refuse_if(3, rate > MAX_RATE)?;
+        refuse_if(24, day < self.today || day > LAST_DAY)?;
+        let is_new = !self.rows.contains_key(&day);
+        let held = self.rows.len();
+        let waits = day > self.today && self.rate_today().is_none();
+        let is_full = held == MAX_ROWS || (held + 1 == MAX_ROWS && waits);
+        refuse_if(25, is_new && is_full)?;
+        self.rows.insert(day, rate);
+        Ok(())
+    }
+
+    /// P5: the rate of the row with the greatest starting day not after today, if one has started.
+    pub fn rate_today(&self) -> Option<u64> {
+        let mut started = self.rows.range(..=self.today);
+        started.next_back().map(|(_, &rate)| rate)
+    }
+
+    /// Rules, Close, with the rate of P5: the number of lines.
+    pub fn close(&mut self, price: u64, list: &mut [u64]) -> Result<usize, Refusal> {
+        refuse_if(3, !CLOSE_PRICES.contains(&price))?;
         refuse_if(5, list.len() < CLOSE_WORDS)?;
         let next_day = self.calendar.next_after(self.today).ok_or(20)?;
+        let rate = self.rate_today().ok_or(26)?;
 
         let mut lines = self.last_close.take().unwrap_or_default();
         lines.clear();
@@ -720,10 +746,14 @@ mod tests {
         lines.as_chunks().0.to_vec()
     }
 
-    /// A Close, as the lines that it reports.
+    /// A Close at a rate, as the lines that it reports. Where the rate is another than before, a row for
+    /// today has it.
     fn close(book: &mut Book, price: u64, rate: u64) -> Vec<Line> {
+        if book.rate_today() != Some(rate) {
+            book.rate(book.today, rate).unwrap();
+        }
         let mut list = vec![77; CLOSE_WORDS];
-        let count = book.close(price, rate, &mut list).unwrap();
+        let count = book.close(price, &mut list).unwrap();
         lines_in(&list, count)
     }
 
@@ -1030,7 +1060,7 @@ mod tests {
         ] {
             assert_eq!(book.offer(0, supplier, quantity, price), Err(answer));
         }
-        assert_eq!(book.close(0, 0, &mut [77; CLOSE_WORDS]), Err(3));
+        assert_eq!(book.close(0, &mut [77; CLOSE_WORDS]), Err(3));
         assert_eq!(again(&book), Ok(vec![[1, 0, 10, 0, 0, 0]]));
         month(&mut book, &[]).unwrap();
         book.cancel(0, 0).unwrap();
@@ -1248,11 +1278,43 @@ mod tests {
     fn close_refuses_in_order() {
         let mut book = Book::open(65_533, 0, &[]).unwrap();
         let mut list = [3; CLOSE_WORDS];
-        assert_eq!(book.close(0, 0, &mut list[1..]), Err(3));
-        assert_eq!(book.close(1, 101, &mut list), Err(3));
-        assert_eq!(book.close(1, 100, &mut list[1..]), Err(5));
-        assert_eq!(book.close(150_000, 100, &mut list), Err(20));
+        assert_eq!(book.close(0, &mut list[1..]), Err(3));
+        assert_eq!(book.close(150_001, &mut list), Err(3));
+        assert_eq!(book.close(1, &mut list[1..]), Err(5));
+        assert_eq!(book.close(150_000, &mut list), Err(20)); // before 26
         assert_eq!((book.today, book.closed_since_month), (65_533, false));
+    }
+
+    #[test]
+    fn a_close_needs_a_row_that_has_started() {
+        for mut book in [book(0), book(1), Book::of_refused_open()] {
+            oblige(&mut book, 1_000, 1_000, 2);
+            book.rate(3, 20).unwrap();
+            let (before, mut list) = (book.clone(), [3; CLOSE_WORDS]);
+            assert_eq!(book.close(100_000, &mut list[1..]), Err(5));
+            assert_eq!(book.close(100_000, &mut list), Err(26));
+            assert_eq!((&book, list), (&before, [3; CLOSE_WORDS]));
+            book.rate(2, 10).unwrap();
+            assert_eq!(book.close(100_000, &mut list), Ok(1));
+            assert_eq!(book.accounts[1], 1_000);
+            assert_eq!(book.close(100_000, &mut list), Ok(1));
+            assert_eq!(book.accounts[1], 3_000);
+        }
+    }
+
+    #[test]
+    fn rate_refuses_in_order() {
+        let mut book = book(0);
+        for day in 3..18 {
+            assert_eq!(book.rate(day, 100), Ok(()));
+        }
+        let before = book.clone();
+        assert_eq!(book.rate(1, 101), Err(3));
+        assert_eq!((book.rate(1, 0), book.rate(65_536, 0)), (Err(24), Err(24)));
+        assert_eq!(book.rate(65_535, 0), Err(25)); // no row has started
+        assert_eq!(book, before);
+        assert_eq!((book.rate(2, 0), book.rate(17, 0)), (Ok(()), Ok(())));
+        assert_eq!((book.rate(18, 0), book.rows.len()), (Err(25), 16));
     }
 
     #[test]
@@ -1322,12 +1384,12 @@ mod tests {
         let (mut book, lines) = closed_book();
         let mut list = [77; CLOSE_WORDS];
         for (answer, price, words) in [(3, 0, CLOSE_WORDS), (5, 1, CLOSE_WORDS - 1)] {
-            assert_eq!(book.close(price, 0, &mut list[..words]), Err(answer));
+            assert_eq!(book.close(price, &mut list[..words]), Err(answer));
             assert_eq!(again(&book), Ok(lines.clone()));
         }
         // Nothing is open so late that a Close is refused by 20, but the book can be brought there.
         book.today = LAST_DAY;
-        assert_eq!(book.close(1, 0, &mut list), Err(20));
+        assert_eq!(book.close(1, &mut list), Err(20));
         assert_eq!(again(&book), Ok(lines));
     }
 
@@ -1340,7 +1402,7 @@ mod tests {
             (5, 1, CLOSE_WORDS - 1),
             (20, 1, CLOSE_WORDS),
         ] {
-            assert_eq!(book.close(price, 0, &mut list[..words]), Err(answer));
+            assert_eq!(book.close(price, &mut list[..words]), Err(answer));
             assert_eq!(again(&book), Err(22));
         }
     }

@@ -330,8 +330,9 @@ impl<W: Write> Generator<W> {
             [seller, buyer, 0, quantity, 1_000, day],
             [buyer, seller, 1, quantity, 1_000, day],
         );
-        let close = [100_000, 100, 1_152, fill];
+        let close = [100_000, 1_152, fill];
         self.bare_call("open", &[day, 1, 0])?;
+        self.bare_call("rate", &[day, 100])?;
         self.after_target("enter", &delivers)?;
         self.after_target("enter", &receives)?;
         self.after_target("enter", &receives)?;

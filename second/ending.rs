@@ -12,9 +12,9 @@ use crate::Generator;
 /// So many calls are drawn to find one that would change the book.
 const DRAWS: u32 = 200;
 /// The calls that change the book. Those that often still are calls when cut short stand more often.
-const CHANGING: [&str; 11] = [
+const CHANGING: [&str; 12] = [
     "deliver", "deliver", "deliver", "enter", "close", "offer", "withdraw", "cancel", "month",
-    "open", "close",
+    "open", "close", "rate",
 ];
 
 #[derive(Clone, Copy, Debug, PartialEq)]
@@ -326,6 +326,17 @@ mod tests {
             "target 2000 2000 6",
             "target 2000 2000 6 0 0",
             "target 2000 2000 4097 0",
+        ]);
+    }
+
+    #[test]
+    fn rates_and_closes_are_written_wrongly_too() {
+        assert_written(&[
+            "close 100000 10 1152 0",
+            "close 100000 1152",
+            "rate",
+            "rate 2",
+            "rate 2 10 10",
         ]);
     }
 

@@ -2,8 +2,8 @@
 //!
 //! The generator plays its own journal on the book, so that it can aim: it knows the waiting legs,
 //! the open obligations, their ages and the accounts. `aim` makes plausible calls and spoils them,
-//! `scenario`, `paid`, `closed_days` and `equal_prices` string them together, `malformed` makes lines that
-//! are no calls, `ending` makes the last line.
+//! `scenario`, `paid`, `closed_days`, `equal_prices` and `rates` string them together, `malformed` makes
+//! lines that are no calls, `ending` makes the last line.
 
 mod aim;
 mod book;
@@ -16,6 +16,7 @@ mod malformed;
 mod paid;
 mod play;
 mod random;
+mod rates;
 mod scenario;
 
 use std::env;

@@ -2,7 +2,7 @@
 
 use std::fmt::Write;
 
-use crate::book::{Accounts, Book, Refusal};
+use crate::book::{Accounts, Book, Refusal, MAX_ROWS};
 use crate::journal::{Call, CallSet, NAMES, RULES};
 use crate::month_traps::MonthTraps;
 use crate::play::Player;
@@ -18,13 +18,14 @@ const ANSWERS: [&[Refusal]; NAMES.len()] = [
     &[0, 1, 13, 14, 15],
     &[0, 2, 13, 15, 16],
     &[0, 1, 2, 3, 13, 15, 16, 17, 18],
-    &[0, 3, 5, 20],
+    &[0, 3, 5, 20, 26],
     &[0, 5, 19, 21],
     &[0, 13],
     &[0, 1],
     &[0, 1],
     &[0, 5, 22],
     &[0, 5, 23],
+    &[0, 3, 24, 25],
     &[0],
 ];
 const OFFER: usize = 5;
@@ -32,6 +33,7 @@ const CLOSE: usize = 6;
 const MONTH: usize = 7;
 const AGAIN: usize = 11;
 const TARGET: usize = 12;
+const RATE: usize = 13;
 
 /// A call that was played.
 pub struct Played<'a> {
@@ -66,6 +68,8 @@ pub struct Hits {
     month_traps: MonthTraps,
     target_traps: TargetTraps,
     turn_traps: TurnTraps,
+    /// How many Rates were refused by 25 with 15 rows held, and with 16.
+    no_place: [u64; 2],
     malformed: u64,
     torn: [u64; TORN.len()],
     whole: u64,
@@ -81,6 +85,7 @@ impl Hits {
             month_traps: MonthTraps::default(),
             target_traps: TargetTraps::new(),
             turn_traps: TurnTraps::new(),
+            no_place: [0; 2],
             malformed: 0,
             torn: [0; TORN.len()],
             whole: 0,
@@ -118,6 +123,9 @@ impl Hits {
                 self.kinds[line[0] as usize] += 1;
             }
         }
+        if place == RATE && answer == 25 {
+            self.no_place[usize::from(played.book.rows.len() == MAX_ROWS)] += 1;
+        }
         self.again_traps.call(place, call, answer, lines.len());
         self.month_traps.call(call, answer, accounts);
         self.target_traps.call(played);
@@ -140,7 +148,7 @@ impl Hits {
     }
 
     /// One line for each pair of a call and an answer it can give, also for those not reached,
-    /// for the kinds of a Close's lines and the traps of Again, Month, Target and auctions, and for the
+    /// for the kinds of a Close's lines and the traps of Again, Month, Target, auctions and Rate, and for the
     /// lines that are no calls and the ways in which a journal can end.
     pub fn table(&self, calls: &CallSet) -> String {
         let mut table = String::new();
@@ -188,6 +196,10 @@ impl Hits {
         if calls.has(OFFER) && calls.has(CLOSE) {
             rows.extend(self.turn_traps.rows());
         }
+        if calls.has(RATE) {
+            let names = ["rate-25-of-15", "rate-25-of-16"];
+            rows.extend(names.into_iter().zip(self.no_place));
+        }
         rows
     }
 }
@@ -217,6 +229,7 @@ fn index(call: &Call) -> usize {
         Call::Look { .. } => 10,
         Call::Again { .. } => AGAIN,
         Call::Target { .. } => TARGET,
+        Call::Rate { .. } => RATE,
         Call::Rules => RULES,
     }
 }
@@ -275,6 +288,7 @@ mod tests {
             "trap target-open-eight-years 0",
             "trap turn-64-of-64 0",
             "trap turn-then-again 0",
+            "trap rate-25-of-15 0",
             "torn comment 0",
             "end 0",
         ] {
@@ -285,16 +299,17 @@ mod tests {
     #[test]
     fn a_call_that_is_not_listed_has_no_traps() {
         for (list, traps) in [
-            ("open,close,rules", [false, false, false, false]),
-            ("open,close,again", [true, false, false, false]),
-            ("open,close,month", [false, true, false, false]),
-            ("open,close,target", [false, false, true, false]),
-            ("open,close,offer", [false, false, false, true]),
-            ("open,offer", [false, false, false, false]),
+            ("open,close,rules", [false, false, false, false, false]),
+            ("open,close,again", [true, false, false, false, false]),
+            ("open,close,month", [false, true, false, false, false]),
+            ("open,close,target", [false, false, true, false, false]),
+            ("open,close,offer", [false, false, false, true, false]),
+            ("open,close,rate", [false, false, false, false, true]),
+            ("open,offer", [false, false, false, false, false]),
         ] {
             let calls = CallSet::listed(list).unwrap();
             let table = Hits::new().table(&calls);
-            let listed = ["again", "month", "target", "turn"]
+            let listed = ["again", "month", "target", "turn", "rate"]
                 .map(|name| table.contains(&format!("trap {name}-")));
             assert_eq!(listed, traps, "{list}");
         }

@@ -6,13 +6,13 @@ const MAX_LIST: u64 = 4_096;
 pub const MAX_LINE: usize = 65_536;
 
 /// The names of all calls; a call is known by its place here.
-pub const NAMES: [&str; 14] = [
+pub const NAMES: [&str; 15] = [
     "open", "enter", "withdraw", "cancel", "deliver", "offer", "close", "month", "status",
-    "account", "look", "again", "target", "rules",
+    "account", "look", "again", "target", "rate", "rules",
 ];
 /// The place of `rules`, which takes no arguments: the calls that take some stand before it. Neither
 /// it nor `target` is a call on the book.
-pub const RULES: usize = 13;
+pub const RULES: usize = 14;
 
 /// The calls that exist.
 #[derive(Clone, Copy)]
@@ -74,7 +74,6 @@ pub enum Call<'a> {
     },
     Close {
         price: u64,
-        rate: u64,
         words: usize,
         fill: u64,
     },
@@ -101,6 +100,10 @@ pub enum Call<'a> {
         last: u64,
         words: usize,
         fill: u64,
+    },
+    Rate {
+        day: u64,
+        rate: u64,
     },
     Rules,
 }
@@ -167,9 +170,8 @@ fn with_arguments<'a>(name: &str, numbers: &'a [u64]) -> Option<Call<'a>> {
             quantity,
             price,
         },
-        ("close", &[price, rate, n, fill]) => Call::Close {
+        ("close", &[price, n, fill]) => Call::Close {
             price,
-            rate,
             words: list_length(n)?,
             fill,
         },
@@ -191,6 +193,7 @@ fn with_arguments<'a>(name: &str, numbers: &'a [u64]) -> Option<Call<'a>> {
             words: list_length(n)?,
             fill,
         },
+        ("rate", &[day, rate]) => Call::Rate { day, rate },
         ("rules", &[]) => Call::Rules,
         _ => return None,
     })
@@ -237,6 +240,14 @@ mod tests {
             parsed("target 2000 18446744073709551615 4096 7").unwrap(),
             "Target { first: 2000, last: 18446744073709551615, words: 4096, fill: 7 }"
         );
+        assert_eq!(
+            parsed("close 100000 1152 7").unwrap(),
+            "Close { price: 100000, words: 1152, fill: 7 }"
+        );
+        assert_eq!(
+            parsed("rate 65535 100").unwrap(),
+            "Rate { day: 65535, rate: 100 }"
+        );
         assert_eq!(parsed("rules").unwrap(), "Rules");
         assert_eq!(NAMES[RULES], "rules");
     }
@@ -274,7 +285,7 @@ mod tests {
             "open 2 0 18446744073709551615",
             "month 0 32",
             "month 1 32 7",
-            "close 1 1 4097 0",
+            "close 1 4097 0",
             "month 0 4097 0",
             "again",
             "again 1152",
@@ -325,6 +336,24 @@ mod tests {
     }
 
     #[test]
+    fn a_rate_stands_in_a_row_and_not_in_a_close() {
+        assert_no_calls(&[
+            "close 100000 10 1152 0",
+            "close 100000 1152",
+            "close 100000 1152 0 ",
+            "rate",
+            "rate 2",
+            "rate 2 ",
+            "rate 2 10 10",
+            "rate 2  10",
+            "rate 2 18446744073709551616",
+            "rate -2 10",
+            "Rate 2 10",
+            "rates 2 10",
+        ]);
+    }
+
+    #[test]
     fn rules_takes_no_argument() {
         assert_no_calls(&[
             "rules 0", "rules ", " rules", "rules\r", "rules\0", "Rules", "rule",
@@ -333,15 +362,7 @@ mod tests {
 
     #[test]
     fn calls_of_later_editions_are_none() {
-        assert_no_calls(&[
-            "rate 2 10",
-            "rate 2 10 10",
-            "close 100000 1152 0",
-            "cause 0 1",
-            "pair 0 1",
-            "report 100 0",
-            "defer 0 1",
-        ]);
+        assert_no_calls(&["cause 0 1", "pair 0 1", "report 100 0", "defer 0 1"]);
     }
 
     #[test]

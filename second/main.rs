@@ -330,7 +330,7 @@ mod tests {
 
     #[test]
     fn the_kinds_of_lines_are_counted_once() {
-        let rows = met(format!("{LATE}close 1 1 1151 0\nagain 1152 0\n").as_bytes());
+        let rows = met(format!("{LATE}close 1 1151 0\nagain 1152 0\n").as_bytes());
         let kinds: Vec<_> = rows.iter().filter(|row| row.starts_with("kind")).collect();
         assert_eq!(kinds, ["kind 1 2"]);
     }
@@ -374,6 +374,9 @@ mod tests {
         format!("month {length} {paid}{} 32 8", " 0".repeat(length - 1))
     }
 
+    /// A Close of no lines.
+    const CLOSED: &str = "rate 2 1\nclose 1 1152 0\n";
+
     #[test]
     fn the_traps_before_a_close_are_counted() {
         let traps: [(&str, &[&str]); 7] = [
@@ -382,7 +385,7 @@ mod tests {
                 &["22-no-close", "22-before-open", "22-of-1152"],
             ),
             (
-                "close 0 0 1152 0\nclose 1 1 1151 0\nagain 4096 0",
+                "close 0 1152 0\nclose 1 1151 0\nagain 4096 0",
                 &[
                     "22-before-open",
                     "22-after-close-3",
@@ -391,15 +394,15 @@ mod tests {
                 ],
             ),
             (
-                "open 65533 1 0\nclose 1 1 1152 0\nagain 2000 0",
+                "open 65533 1 0\nclose 1 1152 0\nagain 2000 0",
                 &["22-after-close-20"],
             ),
             (
-                "close 1 1 1152 0\nopen 2 1 0\nagain 2000 0",
+                &format!("{CLOSED}open 2 1 0\nagain 2000 0"),
                 &["22-no-close", "22-after-open"],
             ),
             (
-                "close 1 1 1152 0\nopen 2 2 0\nagain 2000 0",
+                &format!("{CLOSED}open 2 2 0\nagain 2000 0"),
                 &["22-no-close", "22-after-refused-open"],
             ),
             ("again 1151 0", &["5-of-1151-not-22"]),
@@ -418,10 +421,10 @@ mod tests {
             ("again 1152 0", &["before-open", "no-lines"]),
         ];
         for (journal, traps) in traps {
-            assert_traps(&format!("close 1 1 1152 0\n{journal}\n"), traps);
+            assert_traps(&format!("{CLOSED}{journal}\n"), traps);
         }
         assert_traps(
-            "open 65532 1 0\nclose 1 1 1152 0\nclose 1 1 1152 0\nagain 1152 0\n",
+            "open 65532 1 0\nrate 65532 1\nclose 1 1152 0\nclose 1 1152 0\nagain 1152 0\n",
             &["no-lines", "after-close-20"],
         );
     }
@@ -438,8 +441,8 @@ mod tests {
             ("again 4096 0", &["of-4096"]),
             ("again 1152 0\nagain 1153 0", &["of-1152", "after-again"]),
             ("again 1152 0\nlook 0\nagain 1153 0", &["of-1152"]),
-            ("close 0 1 1152 0\nagain 1153 0", &["after-close-3"]),
-            ("close 1 1 1151 0\nagain 1153 0", &["after-close-5"]),
+            ("close 0 1152 0\nagain 1153 0", &["after-close-3"]),
+            ("close 1 1151 0\nagain 1153 0", &["after-close-5"]),
             (&(month + "\nagain 1153 0"), &["after-month"]),
             (
                 "enter 5 6 0 3 1 3\nwithdraw 4 5\nagain 1153 0",
@@ -450,18 +453,18 @@ mod tests {
                 &["after-cancel", "after-deliver"],
             ),
             (
-                "deliver 0 3\nclose 1 1 1152 0\nagain 1153 0",
+                "deliver 0 3\nclose 1 1152 0\nagain 1153 0",
                 &["fewer-lines"],
             ),
             (
-                "deliver 0 3\ndeliver 1 4\nclose 1 1 1152 0\nagain 1153 0",
+                "deliver 0 3\ndeliver 1 4\nclose 1 1152 0\nagain 1153 0",
                 &["no-lines", "no-lines-after-some"],
             ),
         ];
         for (journal, traps) in traps {
             assert_traps(&format!("{LATE}{journal}\n"), traps);
         }
-        let closes = "close 1 1 1152 0\n".repeat(10);
+        let closes = "close 1 1152 0\n".repeat(10);
         assert_traps(
             &format!("{LATE}{closes}offer 0 7 1 1\nagain 1153 0\n"),
             &["after-offer"],
@@ -492,11 +495,12 @@ mod tests {
             "open 2 2 0\nmonth 0 32 8\n",
             &["empty-21-no-close", "empty-21-after-refused-open"],
         );
-        assert_month_traps("close 1 1 1152 0\nmonth 0 32 8\n", &["empty-all-zero"]);
+        assert_month_traps(&format!("{CLOSED}month 0 32 8\n"), &["empty-all-zero"]);
     }
 
     /// An obligation of member 0 to member 1, and a Close by which 30 cents are owed.
-    const OWED: &str = "enter 0 1 0 3 1000 2\nenter 1 0 1 3 1000 2\nclose 100000 100 1152 1\n";
+    const OWED: &str =
+        "rate 2 100\nenter 0 1 0 3 1000 2\nenter 1 0 1 3 1000 2\nclose 100000 1152 1\n";
 
     #[test]
     fn the_traps_of_months_after_a_close_are_counted() {
@@ -539,7 +543,7 @@ mod tests {
 
     #[test]
     fn the_traps_of_months_after_a_month_are_counted() {
-        let (first, second) = ("open 2 1 0\n", "close 100000 100 1152 1\n");
+        let (first, second) = ("open 2 1 0\n", "close 100000 1152 1\n");
         let in_full = typed(32, 30);
         for (one, other, traps) in [
             (&in_full[..], &in_full[..], &[][..]),
@@ -562,23 +566,23 @@ mod tests {
     #[test]
     fn large_months_are_counted() {
         let pair = "enter 0 1 0 100000 1 2\nenter 1 0 1 100000 1 2\n".repeat(64);
-        let closes = "close 150000 100 1152 0\n".repeat(36);
+        let closes = "close 150000 1152 0\n".repeat(36);
         assert_month_traps(
-            &format!("open 2 0 0\n{pair}{closes}month 0 32 8\n"),
+            &format!("open 2 0 0\nrate 2 100\n{pair}{closes}month 0 32 8\n"),
             &["empty-done", "empty-large"],
         );
     }
 
     #[test]
     fn months_with_offers_are_counted() {
-        let closes = "close 100000 100 1152 0\n".repeat(10);
+        let closes = "close 100000 1152 0\n".repeat(10);
         let offered = format!("open 2 1 0\n{OWED}{closes}offer 0 7 1 1\n");
         assert_month_traps(
             &format!("{offered}month 0 32 8\n"),
             &["empty-done", "empty-with-offers"],
         );
         assert_month_traps(
-            &format!("{offered}close 1 1 1152 0\nmonth 0 32 8\n"),
+            &format!("{offered}close 1 1152 0\nmonth 0 32 8\n"),
             &["empty-done"],
         );
     }
@@ -613,15 +617,14 @@ mod tests {
         assert_eq!(pair_rows(OWED, &zeros, "32", ""), no_pair);
         assert_eq!(pair_rows(OWED, "month 0 32 8", "32", ""), no_pair);
         assert_eq!(pair_rows("", &zeros, "32", ""), ["21 1"]);
-        let close = "close 1 1 1152 0\n";
-        assert_eq!(pair_rows(close, &zeros, "32", ""), ["all-zero 1"]);
+        assert_eq!(pair_rows(CLOSED, &zeros, "32", ""), ["all-zero 1"]);
     }
 
     #[test]
     fn what_follows_a_pair_is_counted() {
         let (zeros, in_full) = (typed(32, 0), typed(32, 30));
         let after = "account 0\naccount 1\naccount 2\naccount 32\nmonth 0 32 8\nlook 0\n\
-            close 100000 100 1152 1\naccount 0\nmonth 0 32 8\nmonth 0 32 8\n";
+            close 100000 1152 1\naccount 0\nmonth 0 32 8\nmonth 0 32 8\n";
         assert_eq!(
             pair_rows(OWED, &in_full, "32", after),
             [
@@ -635,7 +638,10 @@ mod tests {
             pair_rows(OWED, &in_full, "33", after),
             ["5-of-33 1", "5-then-account 2", "5-then-done 1"]
         );
-        assert_eq!(pair_rows("", &zeros, "32", after), ["21 1", "21-then-21 1"]);
+        assert_eq!(
+            pair_rows("rate 2 100\n", &zeros, "32", after),
+            ["21 1", "21-then-21 1"]
+        );
     }
 
     #[test]
@@ -843,7 +849,7 @@ mod tests {
             (format!("{done}look 1\n"), &[]),
             (format!("{done}again 1152 0\n"), &["between", "then-again"]),
             (
-                format!("{done}close 1 1 1152 0\n"),
+                format!("{done}close 1 1152 0\n"),
                 &["between", "then-close"],
             ),
             (format!("{done}month 0 32 0\n"), &["between", "then-month"]),
@@ -872,7 +878,7 @@ mod tests {
         ] {
             assert_target_traps(&format!("open 2 1 0\n{OWED}{journal}"), traps);
         }
-        let closes = "close 100000 100 1152 0\n".repeat(10);
+        let closes = "close 100000 1152 0\n".repeat(10);
         assert_target_traps(
             &format!("open 2 1 0\n{OWED}{closes}{done}offer 0 7 1 1\n"),
             &["between", "then-offer"],
@@ -917,10 +923,11 @@ mod tests {
         let opened = opened_by_target(2_010, THURSDAY, 1);
         let (pair, close) = (
             "enter 0 1 0 3 1000 3743\nenter 1 0 1 3 1000 3743\n",
-            "close 100000 0 1152 1\n",
+            "close 100000 1152 1\n",
         );
         let assert_life = |journal: &str, traps: &[&str]| {
             let first = ["before-open", "open-one-year"];
+            let journal = format!("rate {THURSDAY} 0\n{journal}");
             assert_target_traps(&format!("{opened}{journal}"), &[&first, traps].concat());
             // The same days without a Target before them.
             let (_, untold) = opened.split_once('\n').unwrap();
@@ -943,9 +950,18 @@ mod tests {
         );
         // The days of a book that is gone close nothing.
         assert_life(
-            "open 3743 1 0\nenter 0 1 0 3 1000 3742\nclose 1 1 1152 0\n",
+            "open 3743 1 0\nenter 0 1 0 3 1000 3742\nrate 3743 1\nclose 1 1152 0\n",
             &[],
         );
+    }
+
+    #[test]
+    fn rates_without_a_place_are_counted() {
+        let ahead: String = (3..18).map(|day| format!("rate {day} 1\n")).collect();
+        for (calls, trap) in [("", "25-of-15"), ("rate 2 1\n", "25-of-16")] {
+            let journal = format!("{ahead}{calls}rate 18 1\nrate 17 1\n");
+            assert_traps_named("trap rate-", &journal, &[trap]);
+        }
     }
 
     #[test]
@@ -986,20 +1002,20 @@ mod tests {
     }
 
     /// Two obligations that member 0 is late with, so that Look is free to name either.
-    const LATE: &str = "open 2 1 0\nenter 0 1 0 3 1000 2\nenter 1 0 1 3 1000 2\n\
-        enter 0 1 0 4 1000 2\nenter 1 0 1 4 1000 2\nclose 100000 0 1152 1\n";
+    const LATE: &str = "open 2 1 0\nrate 2 0\nenter 0 1 0 3 1000 2\nenter 1 0 1 3 1000 2\n\
+        enter 0 1 0 4 1000 2\nenter 1 0 1 4 1000 2\nclose 100000 1152 1\n";
 
     #[test]
     fn a_torn_look_has_no_free_choice() {
         let journal = format!("{LATE}look 0\nlook 0");
         let expected = answers(journal.as_bytes());
-        assert!(expected.ends_with("\n0 1\n? line 8\nend 8\n"));
-        let other = expected.replace("\n0 1\n? line 8\n", "\n0 2\n? line 8\n");
+        assert!(expected.ends_with("\n0 1\n? line 9\nend 9\n"));
+        let other = expected.replace("\n0 1\n? line 9\n", "\n0 2\n? line 9\n");
         assert_eq!(difference(journal.as_bytes(), &other), None);
-        let played = expected.replace("? line 8", "0 2");
+        let played = expected.replace("? line 9", "0 2");
         assert!(difference(journal.as_bytes(), &played)
             .unwrap()
-            .starts_with("line 8: look 0 (and no line feed)\nexpected: ? line 8\n"));
+            .starts_with("line 9: look 0 (and no line feed)\nexpected: ? line 9\n"));
     }
 
     #[test]
@@ -1007,7 +1023,7 @@ mod tests {
         let journal = format!("{LATE}again 1152 0\n");
         let expected = answers(journal.as_bytes());
         let lines = "0 2\n  1 0 3 0 0 0\n  1 1 4 0 0 0\n  kept 1140\n";
-        assert!(expected.ends_with(&format!("{lines}{lines}end 7\n")));
+        assert!(expected.ends_with(&format!("{lines}{lines}end 8\n")));
         for (right, wrong) in [
             ("0 2\n", "0 1\n"),
             ("  1 1 4", "  1 1 3"),
@@ -1015,7 +1031,7 @@ mod tests {
         ] {
             let (start, end) = expected.rsplit_once(right).unwrap();
             let shown = difference(journal.as_bytes(), &format!("{start}{wrong}{end}")).unwrap();
-            assert!(shown.starts_with("line 7: again 1152 0\n"), "{shown}");
+            assert!(shown.starts_with("line 8: again 1152 0\n"), "{shown}");
         }
     }
 

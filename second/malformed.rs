@@ -69,16 +69,23 @@ const NO_TARGETS: [&str; 18] = [
     "target 2000 2000 6 0\r",
     "Target 2000 2000 6 0",
 ];
-/// Calls of later editions, which this one does not know.
-const LATER: [&str; 7] = [
-    "rate 2 10",
+/// A row has a day and a rate, and a Close has no rate any more.
+const NO_RATES: [&str; 12] = [
+    "close 100000 10 1152 0",
+    "close 100000 10 1152 0",
+    "close 100000 1152",
+    "close 100000 4097 0",
+    "rate",
+    "rate 2",
+    "rate 2 ",
     "rate 2 10 10",
-    "close 100000 1152 0",
-    "cause 0 1",
-    "pair 0 1",
-    "report 100 0",
-    "defer 0 1",
+    "rate 2  10",
+    "rate 2 -10",
+    "rate 2 10\r",
+    "Rate 2 10",
 ];
+/// Calls of later editions, which this one does not know.
+const LATER: [&str; 4] = ["cause 0 1", "pair 0 1", "report 100 0", "defer 0 1"];
 /// What is neither a call nor a comment, though some of it stands among the answers.
 const SCRAWLS: [&str; 11] = [
     " ",
@@ -106,7 +113,7 @@ impl<W: Write> Generator<W> {
             1..=20 => self.line(b""),
             21..=30 => self.line(b"#"),
             31..=40 => self.line(b"#\0\r\t\xff\xfe open 2 0 0"),
-            41..=50 => self.line(b"#close 100000 10 1152 0 "),
+            41..=50 => self.line(b"#close 100000 1152 0 "),
             _ => self.line(b"# a remark"),
         }
         .map(|_| ())
@@ -136,13 +143,14 @@ impl<W: Write> Generator<W> {
     /// A line with something wrong in its writing. It is no call, except that leading zeros are
     /// right, and that a line of 65,536 bytes is not too long.
     pub fn malformed_line(&mut self) -> io::Result<()> {
-        let line = match (self.random.below(78), self.good_words()) {
+        let line = match (self.random.below(86), self.good_words()) {
             (0, Some(words)) => self.long_line(words),
             (1..=10, _) => self.random.pick(&NO_RULES).to_string(),
             (11..=18, _) => self.random.pick(&LATER).to_string(),
             (19..=22, _) => self.random.pick(&SCRAWLS).to_string(),
             (23..=30, _) => self.random.pick(&NO_MONTHS).to_string(),
             (31..=38, _) => self.random.pick(&NO_TARGETS).to_string(),
+            (39..=46, _) => self.random.pick(&NO_RATES).to_string(),
             (_, Some(words)) => self.slip(words),
             _ => return Ok(()),
         };

@@ -35,7 +35,7 @@ impl<W: Write> Generator<W> {
         Ok(())
     }
 
-    fn open_rightly_or_not(&mut self) -> io::Result<()> {
+    pub fn open_rightly_or_not(&mut self) -> io::Result<()> {
         if self.random.percent(70) {
             self.open_any()
         } else {
@@ -44,7 +44,7 @@ impl<W: Write> Generator<W> {
     }
 
     /// Up to so many obligations that are due today. With none of them all accounts stay zero.
-    fn enter_pairs(&mut self, most: u64) -> io::Result<()> {
+    pub fn enter_pairs(&mut self, most: u64) -> io::Result<()> {
         for _ in 0..self.random.between(0, most) {
             let today = self.day_after(0);
             self.enter_pair(today)?;

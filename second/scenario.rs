@@ -11,7 +11,7 @@ impl<W: Write> Generator<W> {
         self.readings = self.random.pick(&[5, 20, 40, 60]);
         self.noise = self.random.pick(&[0, 2, 5, 10, 25]);
         self.targets = self.random.pick(&[0, 0, 1, 3]);
-        match self.random.below(192) {
+        match self.random.below(200) {
             0..=15 => self.mixed_life(),
             16..=30 => self.stages(),
             31..=42 => self.auctions(),
@@ -37,7 +37,8 @@ impl<W: Write> Generator<W> {
             158..=163 => self.opened_by_targets(),
             164..=183 => self.first_come(),
             184..=187 => self.one_price_for_all(),
-            _ => self.crowd_of_prices(),
+            188..=191 => self.crowd_of_prices(),
+            _ => self.rates_ahead(),
         }
     }
 
@@ -53,7 +54,7 @@ impl<W: Write> Generator<W> {
             self.open_any()?;
         }
         // A kind stands in the urn as often as it is to be drawn.
-        let kinds = NAMES[1..8].iter().chain(&["again"]);
+        let kinds = NAMES[1..8].iter().chain(&["again", "rate"]);
         let urn: Vec<&str> = kinds
             .flat_map(|&name| vec![name; self.random.pick(&[1, 2, 4, 10])])
             .collect();
@@ -104,8 +105,9 @@ impl<W: Write> Generator<W> {
     }
 
     pub fn close_day(&mut self) -> io::Result<()> {
+        self.rows_before_close()?;
         let mut arguments = self.close_arguments();
-        arguments[2] = arguments[2].max(1_152);
+        arguments[1] = arguments[1].max(1_152);
         self.call("close", &arguments).map(|_| ())
     }
 
@@ -542,8 +544,9 @@ impl<W: Write> Generator<W> {
                 day,
             ]
         })?;
+        self.call("rate", &[day, 100])?;
         for _ in 0..self.random.between(34, 37) {
-            self.call("close", &[150_000, 100, 1_152, 0])?;
+            self.call("close", &[150_000, 1_152, 0])?;
         }
         if self.random.percent(85) {
             self.month_in_full()?;
@@ -648,10 +651,10 @@ impl<W: Write> Generator<W> {
     /// A Close that is refused by 3 or by 5.
     pub fn refused_close(&mut self) -> io::Result<()> {
         let mut arguments = self.close_arguments();
-        match self.random.below(4) {
-            0 => arguments[0] = self.random.pick(&[0, 150_001]),
-            1 => arguments[1] = 101,
-            _ => arguments[2] = self.random.pick(&[0, 6, 1_151]),
+        if self.random.percent(50) {
+            arguments[0] = self.random.pick(&[0, 150_001]);
+        } else {
+            arguments[1] = self.random.pick(&[0, 6, 1_151]);
         }
         self.call("close", &arguments).map(|_| ())
     }

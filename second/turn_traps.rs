@@ -634,14 +634,14 @@ mod tests {
         format!("enter 0 1 0 {end}\nenter 1 0 1 {end}\n")
     }
 
-    const CLOSE: &str = "close 100000 10 1152 7\n";
+    const CLOSE: &str = "close 100000 1152 7\n";
 
     /// A book of the terms on the n-th day of the buy-in of obligations 0, 1 and 2, each of 10 units for
     /// 1,000,000 cents. Obligation 3 is not in its buy-in, and 4 is empty.
     fn start(terms: u64, n: usize) -> String {
         let pairs = pair(10, 1_000_000, 2).repeat(3) + &pair(10, 1_000_000, 10) + &pair(1, 1, 2);
         let closes = CLOSE.repeat([30, 10][terms as usize] + n);
-        format!("open 2 {terms} 0\n{pairs}deliver 4 1\n{closes}")
+        format!("open 2 {terms} 0\nrate 2 10\n{pairs}deliver 4 1\n{closes}")
     }
 
     /// The lines of offers for an obligation: supplier, quantity and price of each.
@@ -675,7 +675,7 @@ mod tests {
     /// A book on the first day of the buy-in of one obligation.
     fn start_with(quantity: u64, amount: u64) -> String {
         format!(
-            "open 2 1 0\n{}{}",
+            "open 2 1 0\nrate 2 10\n{}{}",
             pair(quantity, amount, 2),
             CLOSE.repeat(11)
         )
@@ -704,7 +704,8 @@ mod tests {
         }
         // The Close is refused, or another book was opened.
         let offered = start(1, 1) + &at_one_price(&[4, 5]);
-        for calls in ["close 0 0 1152 7\n", "open 2 1 0\nclose 1 1 1152 7\n"] {
+        let opened = "open 2 1 0\nrate 2 1\nclose 1 1152 7\n";
+        for calls in ["close 0 1152 7\n", opened] {
             assert_eq!(met(&format!("{offered}{calls}")), [""; 0], "{calls}");
         }
     }
@@ -933,8 +934,8 @@ mod tests {
             ("offer 3 9 5 101001", &[]),
             ("offer 0 9 5 108001", &["18-between"]),
             ("offer 1 9 5 108001", &[]),
-            ("close 0 0 1152 7", &["close-3-between"]),
-            ("close 1 0 1151 7", &["close-5-between"]),
+            ("close 0 1152 7", &["close-3-between"]),
+            ("close 1 1151 7", &["close-5-between"]),
             ("again 1152 7", &["again-between"]),
             ("again 1151 7", &[]),
             ("month 0 32 7", &["month-between"]),
@@ -1027,7 +1028,7 @@ mod tests {
         };
         assert!(day_after(format!("{first}{CLOSE}{second}")));
         assert!(!day_after(format!("{first}{CLOSE}{CLOSE}{second}")));
-        assert!(!day_after(format!("{first}close 0 0 1152 7\n{second}")));
+        assert!(!day_after(format!("{first}close 0 1152 7\n{second}")));
         assert!(!day_after(format!("{}{CLOSE}{second}", at_one_price(&[1]))));
         let dearer = second.replace("101000", "101001");
         assert!(!day_after(format!("{first}{CLOSE}{dearer}")));
@@ -1069,7 +1070,10 @@ mod tests {
         assert_eq!(agains(&[12, 3], "again 1152 7\n"), 0);
         assert_eq!(agains(&[3, 12], &format!("{CLOSE}again 1152 7\n")), 0);
         assert_eq!(
-            agains(&[3, 12], &format!("open 2 1 0\n{CLOSE}again 1152 7\n")),
+            agains(
+                &[3, 12],
+                &format!("open 2 1 0\nrate 2 1\n{CLOSE}again 1152 7\n")
+            ),
             0
         );
     }

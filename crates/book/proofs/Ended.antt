@@ -3,7 +3,7 @@
 use Prim.Native.Nat.{ℕ, _*_, _≤_, _<_}
 use native.Mathlib.Omega.{arith}
 use mathlib.Core.Path.{_≡_, refl, sym, ap, subst⁻¹, _∙_}
-use mathlib.Core.Bool.{true}
+use mathlib.Core.Bool.{true, false}
 use mathlib.Core.List.{List}
 use mathlib.Core.Logic.{⊎-elim}
 use lib.ListN.{length}
@@ -37,6 +37,8 @@ use Rattle.closing.proofs.Together.{rows-length, rows-closed, lines-most}
 use Rattle.closing.proofs.Fines.{Charged, charged-up-to}
 use Rattle.closing.proofs.Lines.{lines-back, written-fits}
 use Rattle.closing.proofs.Sizes.{lines-sound}
+use Rattle.rates.specs.Force.{isUnset}
+use Rattle.rates.proofs.Keeping.{later-valid}
 use Rattle.reprint.specs.declared.LastClose.{LastClose}
 use Rattle.reprint.specs.Kept.{keptFrom, Keepable}
 use Rattle.reprint.proofs.Keeping.{kept-valid}
@@ -45,7 +47,7 @@ use Rattle.refusals.proofs.Ending.{close-given, close-at, again-given}
 use Rattle.book.specs.declared.Book.{Book}
 use Rattle.book.specs.declared.Closed.{Closed}
 use Rattle.book.specs.Book.{withDay, withLast, closedOf, todayOf, ageOf, Valid}
-use Rattle.book.specs.Close.{nextDay, dayEnd, closedDay, closedBook, closeRefused, closeAnswer, closeDone, closeBy, close, closeWords}
+use Rattle.book.specs.Close.{nextDay, forceOf, dayEnd, closedDay, closedBook, closeRefused, closeAnswer, closeDone, closeBy, close, closeWords}
 use Rattle.book.specs.Again.{again}
 use Rattle.book.proofs.Outcomes.{Ends, close-ends, close-case, again-case}
 
@@ -150,6 +152,7 @@ module _ (b : Book) (v : Valid b) (d : DayEnd) (e : Ends b d) where
       legs = v .legs;
       ledger = closed-ledger-valid;
       last = kept-valid (closeLines d l) lines-few;
+      rates = later-valid (todayOf b) next (b .rates) (omega (arith, first .later)) (v .rates);
       room = v .room;
       timely = λ n h. record { clears = rw (after-goes n h .later .deal) (v .timely n h .clears); young = still-young n h };
       accounts-near = λ m. omega (arith, charged .near m, v .accounts-near m, v .ledger .few, first .later);
@@ -157,23 +160,20 @@ module _ (b : Book) (v : Valid b) (d : DayEnd) (e : Ends b d) where
 
 -- ---- the answer of a Close and the words of its list
 -- refused by n: the same book and the same words
-pub refused-end : (b : Book) → Valid b → (price rate n : ℕ) (ws : List ℕ) → closeAnswer b price rate (length ws) ≡ n → (n ≡ 0 → ⊥) →
-    (closeRefused b n ≡ close b price rate (length ws)) × ((ws ≡ closeWords b price rate ws) × Valid b)
+pub refused-end : (b : Book) → Valid b → (price n : ℕ) (ws : List ℕ) → closeAnswer b price (length ws) ≡ n → (n ≡ 0 → ⊥) →
+    (closeRefused b n ≡ close b price (length ws)) × ((ws ≡ closeWords b price ws) × Valid b)
 unfolding close closeBy closeWords
-refused-end b v price rate n ws e z =
-    (by (nextDay b) e, (refused-with n (closeRefusals price rate (length ws) (nextDay b)) _ (λ k. ws) e z, v))
+refused-end b v price n ws e z =
+    (by (nextDay b) e, (refused-with n (closeRefusals price (length ws) (nextDay b) (forceOf b)) _ (λ k. ws) e z, v))
   where
-    by : (t : NextDay) → answer (closeRefusals price rate (length ws) t) ≡ n → closeRefused b n ≡ closeBy b price rate (length ws) t
+    by : (t : NextDay) → answer (closeRefusals price (length ws) t (forceOf b)) ≡ n → closeRefused b n ≡ closeBy b price (length ws) t
     by Never e = ap (closeRefused b) (sym e)
-    by (At next) e = refused-with n (closeRefusals price rate (length ws) (At next)) _ (closeRefused b) e z
+    by (At next) e = refused-with n (closeRefusals price (length ws) (At next) (forceOf b)) _ (closeRefused b) e z
 
 -- done, with the ledger that the Close of the book's ledger gave, and with the lines that were then read from the list
-module _ (b : Book) (v : Valid b) (price rate : ℕ) (ws : List ℕ) (e : answer (closeRefusalsIn price rate (length ws)) ≡ 0) (next : Day) (q : nextDay b ≡ At next) where
-  abbrev d : DayEnd
-  d = dayEnd b price rate
-
+module _ (b : Book) (v : Valid b) (price : ℕ) (ws : List ℕ) (e : answer (closeRefusalsIn price (length ws)) ≡ 0) (next : Day) (q : nextDay b ≡ At next) (f : isUnset (forceOf b) ≡ false) (d : DayEnd) (same-end : d ≡ dayEnd b price) where
   abbrev ends : Ends b d
-  ends = close-ends b v price rate (length ws) e
+  ends = subst⁻¹ (Ends b) same-end (close-ends b v price (length ws) e)
 
   abbrev lines : List Line
   lines = closeLines d (b .ledger)
@@ -182,12 +182,14 @@ module _ (b : Book) (v : Valid b) (price rate : ℕ) (ws : List ℕ) (e : answer
   ended l k = withLast k (withDay (closedDay next) l b)
 
   pub done-closable : Closable d (b .ledger) ws
-  done-closable = closable b v d ends ws (close-given price rate (length ws) e .long)
+  done-closable = closable b v d ends ws (close-given price (length ws) e .long)
 
   -- the Close is done, with next as its next clearing day
-  close-done : closeDone b d next ≡ close b price rate (length ws)
+  close-done : closeDone b d next ≡ close b price (length ws)
   unfolding close closeBy
-  close-done = rw q (done-by (closeRefusals price rate (length ws) (At next)) (closeDone b d next) (closeRefused b) (close-at price rate (length ws) (At next) next refl e))
+  close-done =
+      ap (λ (x : DayEnd). closeDone b x next) same-end
+      ∙ rw q (done-by (closeRefusals price (length ws) (At next) (forceOf b)) (closeDone b (dayEnd b price) next) (closeRefused b) (close-at price (length ws) (At next) (forceOf b) next refl f e))
 
   module _ (l : Ledger) (count : ℕ) (ws' : List ℕ) (c : ClosedAs (closedLedger d (b .ledger)) lines l count ws ws') where
     -- the lines of the Close are read from its list
@@ -203,30 +205,31 @@ module _ (b : Book) (v : Valid b) (price rate : ℕ) (ws : List ℕ) (e : answer
     }
 
     pub done-end : (k : LastClose) → k ≡ keptFrom (linesRead count ws') →
-        (record { answer = 0; count = count; book = ended l k } ≡ close b price rate (length ws)) × ((ws' ≡ closeWords b price rate ws) × Valid (ended l k))
+        (record { answer = 0; count = count; book = ended l k } ≡ close b price (length ws)) × ((ws' ≡ closeWords b price ws) × Valid (ended l k))
     unfolding closeWords
-    done-end k f =
-        let kept = f ∙ ap keptFrom lines-told in
+    done-end k same-lines =
+        let kept = same-lines ∙ ap keptFrom lines-told in
         let book : ended l k ≡ closedBook b d next = λ i. ended (c .result i) (kept i) in
         let same : _≡_ {A = Closed} (record { answer = 0; count = count; book = ended l k }) (closeDone b d next) =
         λ i. record { answer = 0; count = c .counted i; book = book i } in (
           same ∙ close-done,
           (
-            c .words ∙ done-by (closeRefusals price rate (length ws) (nextDay b)) (written lines ws) (λ k. ws) (close-at price rate (length ws) (nextDay b) next q e),
+            c .words ∙ ap (λ (x : DayEnd). written (closeLines x (b .ledger)) ws) same-end
+                ∙ done-by (closeRefusals price (length ws) (nextDay b) (forceOf b)) (written (closeLines (dayEnd b price) (b .ledger)) ws) (λ k. ws) (close-at price (length ws) (nextDay b) (forceOf b) next q f e),
             subst⁻¹ Valid book (closed-valid b v d ends next q),
           ),
         )
 
 -- a Close keeps the book valid
-pub close-valid : (b : Book) → Valid b → (price rate : ℕ) (ws : List ℕ) → Valid (close b price rate (length ws) .book)
-close-valid b v price rate ws =
-    close-case b v (λ (x : Closed) (us : List ℕ). Valid (x .book)) price rate ws (λ k z. v) (λ d e s next q long. closed-valid b v d e next q)
+pub close-valid : (b : Book) → Valid b → (price : ℕ) (ws : List ℕ) → Valid (close b price (length ws) .book)
+close-valid b v price ws =
+    close-case b v (λ (x : Closed) (us : List ℕ). Valid (x .book)) price ws (λ k z. v) (λ next c. closed-valid b v (dayEnd b price) (c .ends) next (c .on))
 
 -- the lines fit the list
-pub close-fits : (b : Book) (price rate : ℕ) (ws : List ℕ) → Valid b → wordsInLine * close b price rate (length ws) .count ≤ length ws
-close-fits b price rate ws v =
-    close-case b v (λ (x : Closed) (us : List ℕ). wordsInLine * x .count ≤ length ws) price rate ws (λ k z. omega arith)
-    (λ d e s next q long. omega (arith, lines-few b v d e))
+pub close-fits : (b : Book) (price : ℕ) (ws : List ℕ) → Valid b → wordsInLine * close b price (length ws) .count ≤ length ws
+close-fits b price ws v =
+    close-case b v (λ (x : Closed) (us : List ℕ). wordsInLine * x .count ≤ length ws) price ws (λ k z. omega arith)
+    (λ next c. omega (arith, c .long, lines-few b v (dayEnd b price) (c .ends)))
 
 -- ---- Again
 -- an Again hands back the book as it was, so it keeps it valid

@@ -15,6 +15,7 @@ use Rattle.calendar.specs.Closed.{day, lastDay, mostClosed, risesFrom, closedRe
 use Rattle.calendar.specs.Days.{clearing}
 use Rattle.calendar.proofs.Closed.{given-rises}
 use Rattle.instructions.proofs.Keeping.{none-valid, none-waiting}
+use Rattle.rates.proofs.Keeping.{no-rates-valid}
 use Rattle.reprint.proofs.Keeping.{kept-valid}
 use Rattle.ledger.specs.Setup.{ValidTerms}
 use Rattle.ledger.proofs.Valid.{new-valid}
@@ -54,6 +55,7 @@ fresh-valid first ds terms taken most clears =
       legs = none-valid;
       ledger = new-valid;
       last = kept-valid [] (omega arith);
+      rates = no-rates-valid first;
       room = omega (arith, none-waiting);
       timely = λ n h. absurd (omega arith);
       accounts-near = λ m. omega (arith, ap natAbs (zero-at 32 m));

@@ -31,13 +31,16 @@ use Rattle.ledger.specs.declared.Ledger.{Ledger}
 use Rattle.ledger.specs.Obligations.{noObligation, wishing, SoundDeal, Sound, moving}
 use Rattle.ledger.specs.Ledger.{obligationAt, withObligation, withNew, ValidLedger}
 use Rattle.ledger.proofs.Keeping.{new-sound, moving-sound, wishing-sound, Later, moving-later, wishing-later}
+use Rattle.rates.specs.Rows.{rowOf}
+use Rattle.rates.proofs.Keeping.{with-valid}
 use Rattle.book.specs.declared.Book.{Book}
 use Rattle.book.specs.Book.{withLegs, withLedger, closedOf, todayOf, ageOf, Timely, Valid}
 use Rattle.book.specs.Instructing.{newLeg, obligationOf, enteredAlone, enteredWith, enteredBy, enterRefused, enter, withdraw, cancel, deliver}
 use Rattle.refusals.specs.Calls.{enterRefusals, deliverRefusalsOf}
 use Rattle.book.specs.Buying.{offer}
+use Rattle.book.specs.Rating.{rated}
 use Rattle.refusals.proofs.Offering.{within, offered, offers-few}
-use Rattle.book.proofs.Outcomes.{withdraw-case, cancel-case, deliver-case, offer-case}
+use Rattle.book.proofs.Outcomes.{withdraw-case, cancel-case, deliver-case, offer-case, rate-case}
 
 -- ---- parts of a book that change
 module _ (b : Book) (v : Valid b) where
@@ -51,6 +54,7 @@ module _ (b : Book) (v : Valid b) where
     legs = g;
     ledger = k;
     last = v .last;
+    rates = v .rates;
     room = r;
     timely = λ n h. record { clears = t n h .clears; young = t n h .young };
     accounts-near = λ m. rw a (v .accounts-near m);
@@ -113,6 +117,22 @@ module _ (b : Book) (v : Valid b) where
         price-some = asked .price-within .0;
         price-most = asked .price-within .1;
       })) (v .room) refl (v .timely))
+
+  -- ---- Rate
+  pub rate-valid : (start : Day) (rate : ℕ) → Valid (rated b start rate .book)
+  unfolding ageOf
+  rate-valid start rate =
+      rate-case b (λ r. Valid (r .book)) start rate (λ k z. v) (λ g. record {
+        setup = v .setup;
+        day = v .day;
+        legs = v .legs;
+        ledger = v .ledger;
+        last = v .last;
+        rates = with-valid (todayOf b) (b .rates) (v .rates) (rowOf start rate) (g .room) (g .rate-most);
+        room = v .room;
+        timely = λ n h. record { clears = v .timely n h .clears; young = v .timely n h .young };
+        accounts-near = v .accounts-near;
+      })
 
   -- ---- Enter
   -- what an instruction that is not refused is

@@ -17,7 +17,7 @@ use Rattle.instructions.specs.Legs.{fetchedLeg}
 use Rattle.instructions.specs.Match.{lowestFit}
 use Rattle.ledger.specs.Ledger.{fetched}
 use Rattle.netting.specs.Accounts.{noMember}
-use Rattle.refusals.specs.Calls.{enterRefusals, cancelRefusalsIn, cancelRefusalsOf, deliverRefusalsIn, deliverRefusalsOf, offerRefusalsIn, offerRefusalsOf, closeRefusalsIn, closeRefusals, againRefusals}
+use Rattle.refusals.specs.Calls.{enterRefusals, cancelRefusalsIn, cancelRefusalsOf, deliverRefusalsIn, deliverRefusalsOf, offerRefusalsIn, offerRefusalsOf, rateRefusals, closeRefusalsIn, closeRefusals, againRefusals}
 use Rattle.refusals.proofs.Named.{fetch-refuses}
 use Rattle.payments.specs.Month.{monthRefusals}
 use Rattle.book.specs.declared.Book.{Book}
@@ -34,7 +34,8 @@ use Rattle.book.specs.Open.{openRefusals, openRefused, opened}
 use Rattle.book.specs.Book.{todayOf}
 use Rattle.book.specs.Instructing.{newLeg, enteredAlone, enteredWith, enteredBy, enterRefused, enter, withdrawRefusals, doneRefused, withdrawBy, withdraw, cancelRefusals, cancelRefused, cancelDone, cancel, deliverRefusals, deliverRefused, deliverDone, deliver}
 use Rattle.book.specs.Buying.{offerRefusalsFor, offerRefusals, offerDone, offer}
-use Rattle.book.specs.Close.{nextDay, closeRefused, closeBy, close}
+use Rattle.book.specs.Rating.{rateDone, rated}
+use Rattle.book.specs.Close.{nextDay, forceOf, closeRefused, closeBy, close}
 use Rattle.book.specs.Again.{againDone, again}
 use Rattle.book.specs.Month.{month}
 use Rattle.book.specs.Showing.{statusRefusals, statusRefused, statusDone, status, accountRefused, account, Looks}
@@ -84,13 +85,19 @@ module _ (b : Book) where
       fetch-refuses (offerRefusalsIn supplier q price) (offerRefusalsFor b price) (λ o. offerDone b n supplier q price) (doneRefused b)
       (λ (r : Done). r .answer) (fetched (b .ledger) n) refl (λ o. refl) (λ o. refl) (λ k. refl)
 
-  pub close-refuses : (price rate words : ℕ) → Refuses (closeRefusals price rate words (nextDay b)) (close b price rate words .answer)
+  pub rate-refuses : (start : Day) (rate : ℕ) → Refuses (rateRefusals (todayOf b) (b .rates) start rate) (rated b start rate .answer)
+  unfolding rated rateRefusals
+  rate-refuses start rate =
+      outcome-refuses (λ (r : Done). r .answer) (rateRefusals (todayOf b) (b .rates) start rate) (rateDone b start rate) (doneRefused b) refl refl (λ k. refl)
+
+  pub close-refuses : (price words : ℕ) → Refuses (closeRefusals price words (nextDay b) (forceOf b)) (close b price words .answer)
   unfolding close closeBy closeRefusals closeRefusalsIn
-  close-refuses price rate words = by (nextDay b)
+  close-refuses price words = by (nextDay b)
     where
-      by : (t : NextDay) → Refuses (closeRefusals price rate words t) (closeBy b price rate words t .answer)
-      by Never = record { printed = is-printed (closeRefusals price rate words Never) refl; given = refl }
-      by (At next) = outcome-refuses (λ (r : Closed). r .answer) (closeRefusals price rate words (At next)) _ (closeRefused b) refl refl (λ k. refl)
+      by : (t : NextDay) → Refuses (closeRefusals price words t (forceOf b)) (closeBy b price words t .answer)
+      by Never = record { printed = is-printed (closeRefusals price words Never (forceOf b)) refl; given = refl }
+      by (At next) =
+          outcome-refuses (λ (r : Closed). r .answer) (closeRefusals price words (At next) (forceOf b)) _ (closeRefused b) refl refl (λ k. refl)
 
   pub again-refuses : (words : ℕ) → Refuses (againRefusals (b .day .«has_closed») words) (again b words .answer)
   unfolding again againRefusals

@@ -15,6 +15,8 @@ use Rattle.ledger.specs.declared.Ledger.{Ledger}
 use Rattle.ledger.specs.Setup.{ValidSetup}
 use Rattle.ledger.specs.Obligations.{ageBy, lastOf}
 use Rattle.ledger.specs.Ledger.{mostPerClose, obligationAt, ValidLedger}
+use Rattle.rates.specs.declared.Rates.{Rates}
+use Rattle.rates.specs.Force.{ValidRates}
 use Rattle.reprint.specs.declared.LastClose.{LastClose}
 use Rattle.reprint.specs.Kept.{ValidLast}
 use Rattle.book.specs.declared.BookDay.{BookDay}
@@ -22,19 +24,23 @@ use Rattle.book.specs.declared.Book.{Book}
 
 -- the book with other legs
 abbrev pub withLegs : Legs → Book → Book
-withLegs legs b = record { setup = b .setup; day = b .day; legs = legs; ledger = b .ledger; last = b .last }
+withLegs legs b = record { setup = b .setup; day = b .day; legs = legs; ledger = b .ledger; last = b .last; rates = b .rates }
 
 -- the book with another ledger
 abbrev pub withLedger : Ledger → Book → Book
-withLedger l b = record { setup = b .setup; day = b .day; legs = b .legs; ledger = l; last = b .last }
+withLedger l b = record { setup = b .setup; day = b .day; legs = b .legs; ledger = l; last = b .last; rates = b .rates }
 
 -- the book with another ledger, on another day
 abbrev pub withDay : BookDay → Ledger → Book → Book
-withDay d l b = record { setup = b .setup; day = d; legs = b .legs; ledger = l; last = b .last }
+withDay d l b = record { setup = b .setup; day = d; legs = b .legs; ledger = l; last = b .last; rates = b .rates }
 
 -- the book with other lines of a latest Close
 abbrev pub withLast : LastClose → Book → Book
-withLast last b = record { setup = b .setup; day = b .day; legs = b .legs; ledger = b .ledger; last = last }
+withLast last b = record { setup = b .setup; day = b .day; legs = b .legs; ledger = b .ledger; last = last; rates = b .rates }
+
+-- the book with other rates
+abbrev pub withRates : Rates → Book → Book
+withRates rates b = record { setup = b .setup; day = b .day; legs = b .legs; ledger = b .ledger; last = b .last; rates = rates }
 
 -- the days that the book lists as closed
 abbrev pub closedOf : Book → List Day
@@ -67,6 +73,7 @@ pub record Valid (b : Book) : Type 0 where
   pub legs : ValidLegs (b .legs)
   pub ledger : ValidLedger (b .ledger)
   pub last : ValidLast (b .last)
+  pub rates : ValidRates (todayOf b) (b .rates)
   pub room : 2 * b .ledger .count + waiting (b .legs) ≤ b .legs .count
   pub timely : (n : ℕ) → n < b .ledger .count → Timely b (obligationAt (b .ledger) n)
   pub accounts-near : (m : ℕ) → natAbs (getD (b .ledger .accounts) m (pos 0)) ≤ mostPerClose * todayOf b .0

@@ -2,6 +2,7 @@ pub mod Book
 pub mod Open
 pub mod Instructing
 pub mod Buying
+pub mod Rating
 pub mod Close
 pub mod Again
 pub mod Month

@@ -13,6 +13,7 @@ use Rattle.instructions.specs.Legs.{noLegs}
 use Rattle.ledger.specs.declared.Terms.{Terms}
 use Rattle.ledger.specs.declared.Setup.{Setup}
 use Rattle.ledger.specs.Ledger.{newLedger}
+use Rattle.rates.specs.Rows.{noRates}
 use Rattle.reprint.specs.Kept.{keptFrom}
 use Rattle.book.specs.declared.Book.{Book}
 use Rattle.book.specs.declared.Opened.{Opened}
@@ -36,6 +37,7 @@ freshBook first closedDays terms = record {
   legs = noLegs;
   ledger = newLedger;
   last = keptFrom [];
+  rates = noRates;
 }
 
 -- O6, Open: a refused Open returns the fresh book of day 2, without closed days and with terms 0

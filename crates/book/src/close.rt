@@ -4,6 +4,7 @@ use crate::BookDay;
 use crate::Closed;
 use calendar::NextDay;
 use closing::DayEnd;
+use rates::InForce;
 use reprint::LastClose;
 ghost use mathlib.Core.Path.{_≡_};
 ghost use lib.ListN.{length};
@@ -12,14 +13,14 @@ ghost use Rattle.book.specs.Close.{close, closeWords};
 
 impl Book {
     // Takes penalties, gives notices, buys in and compensates; then the offers are dropped and today is the next
-    // clearing day. The lines are kept for Again.
-    pub fn close(mut self, price: u64, rate: u64, lines: &mut [u64]) -> Closed
+    // clearing day. The rate is the one in force today. The lines are kept for Again.
+    pub fn close(mut self, price: u64, lines: &mut [u64]) -> Closed
         requires { ⌜ Valid self ⌝ }
-        ensures { λ r. ⌜ r ≡ close self price rate (length (now (lines .entry))) ⌝ }
-        ensures { λ r. ⌜ now (lines .exit) ≡ closeWords self price rate (now (lines .entry)) ⌝ }
+        ensures { λ r. ⌜ r ≡ close self price (length (now (lines .entry))) ⌝ }
+        ensures { λ r. ⌜ now (lines .exit) ≡ closeWords self price (now (lines .entry)) ⌝ }
         ensures { λ r. ⌜ Valid (r .book) ⌝ }
     {
-        let number = refusals::close_answer_in(price, rate, lines.len());
+        let number = refusals::close_answer_in(price, lines.len());
         if number != 0 {
             return Closed {
                 answer: number,
@@ -37,11 +38,18 @@ impl Book {
                 book: self,
             };
         };
+        let InForce::Since(row) = self.rates.in_force(today) else {
+            return Closed {
+                answer: 26,
+                count: 0,
+                book: self,
+            };
+        };
         let end = DayEnd {
             setup: setup,
             today: today,
             price: price,
-            rate: rate,
+            rate: row.rate as u64,
         };
         let after = BookDay {
             today: next,

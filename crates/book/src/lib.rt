@@ -5,6 +5,7 @@ use instructions::Legs;
 use ledger::Ledger;
 use ledger::Parts;
 use ledger::Setup;
+use rates::Rates;
 use reprint::LastClose;
 
 mod again;
@@ -13,6 +14,7 @@ mod close;
 mod instructing;
 mod month;
 mod open;
+mod rating;
 mod showing;
 
 // What the days have brought: the day that it is, and which Closes there were.
@@ -31,6 +33,7 @@ pub struct Book {
     pub ledger: Ledger,
     // The lines of the latest accepted Close.
     pub last: LastClose,
+    pub rates: Rates,
     pub setup: Setup,
     pub day: BookDay,
 }
@@ -49,7 +52,7 @@ pub struct Entered {
     pub book: Book,
 }
 
-// The answer of Withdraw, of Offer and of Month.
+// The answer of Withdraw, of Offer, of Rate and of Month.
 pub struct Done {
     pub answer: u64,
     pub book: Book,

@@ -9,6 +9,7 @@ use instructions::Legs;
 use ledger::Ledger;
 use ledger::Setup;
 use ledger::Terms;
+use rates::Rates;
 use reprint::LastClose;
 ghost use mathlib.Core.Path.{_≡_};
 ghost use Rattle.book.specs.Open.{termsOf, freshBook, refusedBook, opened};
@@ -41,6 +42,7 @@ impl Book {
             legs: Legs::none(),
             ledger: Ledger::new(),
             last: LastClose::none(),
+            rates: Rates::none(),
             setup: Setup {
                 closed_days: closed_days,
                 terms: terms_of(terms),

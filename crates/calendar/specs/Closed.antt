@@ -8,11 +8,20 @@ use lib.ListN.{length, take}
 use Rattle.basics.specs.Choice.{pick}
 use Rattle.basics.specs.Lists.{padded}
 use Rattle.calendar.specs.declared.Day.{Day}
+use Rattle.calendar.specs.declared.StoredDay.{StoredDay}
 use Rattle.calendar.specs.declared.ClosedDays.{ClosedDays}
 
 -- D8, Days and units: the calendar day with a number, which is not a count of clearing days
 abbrev pub day : ℕ → Day
 day d = record { 0 = d }
+
+-- D8, Days and units: a calendar day as a book stores it, by the same number
+abbrev pub storedDay : Day → StoredDay
+storedDay d = record { 0 = d .0 }
+
+-- D8, Days and units: the calendar day that a book stores
+abbrev pub dayOf : StoredDay → Day
+dayOf s = day (s .0)
 
 -- D2, Days and units: days have numbers from 0 up to 65,535; number 0 belongs to 1 January 2000, a Saturday
 abbrev pub lastDay : ℕ

@@ -3,7 +3,7 @@
 ghost use mathlib.Core.Path.{_≡_};
 ghost use Prim.Native.Nat.{_≤_};
 ghost use lib.ListN.{length};
-ghost use Rattle.calendar.specs.Closed.{mostClosed, risesFrom, closedRefused, closedDays, listedDays, Rises, among};
+ghost use Rattle.calendar.specs.Closed.{storedDay, dayOf, lastDay, mostClosed, risesFrom, closedRefused, closedDays, listedDays, Rises, among};
 ghost use Rattle.calendar.specs.Days.{clearing, nextAfter, nthAfter, ageAt, weekdaysTo, takesAway, closedBetween};
 
 // The last day of the calendar; `lastDay` in specs/.
@@ -14,6 +14,9 @@ pub const MOST_CLOSED: usize = 64;
 
 // A calendar day by its number; day 0 is Saturday 1 January 2000.
 pub struct Day(pub u64);
+
+// A calendar day as a book stores it, in two bytes. It is turned into a `Day` before it is compared with one.
+pub struct StoredDay(pub u16);
 
 // A count of clearing days, or an age.
 pub struct ClearingDays(pub u64);
@@ -72,6 +75,25 @@ fn takes_away(closed: Day, after: Day, to: Day) -> bool
     ensures { λ r. ⌜ r ≡ takesAway closed after to ⌝ }
 {
     after.0 < closed.0 && closed.0 <= to.0 && 2 <= closed.0 % 7
+}
+
+impl Day {
+    // The day as a book stores it.
+    pub fn stored(self) -> StoredDay
+        requires { ⌜ self .0 ≤ lastDay ⌝ }
+        ensures { λ r. ⌜ r ≡ storedDay self ⌝ }
+    {
+        StoredDay(self.0 as u16)
+    }
+}
+
+impl StoredDay {
+    // The calendar day that is stored.
+    pub fn day(self) -> Day
+        ensures { λ r. ⌜ r ≡ dayOf self ⌝ }
+    {
+        Day(self.0 as u64)
+    }
 }
 
 impl ClosedDays {

@@ -23,6 +23,7 @@ use Rattle.amounts.specs.Amounts.{value, penalty, compensation, dueFor, cash, c
 use Rattle.netting.specs.Accounts.{debited, credited, transferred}
 use Rattle.netting.specs.Shares.{floorShare, remainder, centsLeft, comesBefore, rank, extraCent, share, shares}
 use Rattle.offers.specs.Rank.{overtakes, insertedBy, rankedBy}
+use Rattle.offers.specs.Held.{noOffers}
 use Rattle.offers.specs.BuyIn.{offersFor, withGiven, givenBy, given}
 use Rattle.instructions.specs.Match.{fits, firstFit, lowestFit}
 use Rattle.ledger.specs.Parts.{settledParts}
@@ -35,7 +36,10 @@ use Rattle.book.specs.Open.{openRefusals, opened}
 use Rattle.book.specs.Instructing.{obligationOf, enteredAlone, enteredWith, enter, deliverRefusals, deliver}
 use Rattle.refusals.specs.Calls.{fetchOutcome, enterRefusals, deliverRefusalsOf}
 use Rattle.book.specs.Buying.{offerRefusals, offer}
-use Rattle.refusals.specs.Calls.{offerRefusalsIn, offerRefusalsOf, closeRefusalsIn, closeRefusals, againRefusals}
+use Rattle.rates.specs.Rows.{holds, withRow, enteredRows, placeOf, withRate}
+use Rattle.rates.specs.Force.{hasStarted, orLater, inForce}
+use Rattle.refusals.specs.Calls.{offerRefusalsIn, offerRefusalsOf, lastKept, noPlace, rateRefusals, closeRefusalsIn, closeRefusals, againRefusals}
+use Rattle.book.specs.Rating.{rated}
 use Rattle.book.specs.Close.{closeBy, close, closeWords}
 use Rattle.book.specs.Again.{again, againWords}
 use Rattle.book.specs.Month.{monthBook, monthAnswer, month}
@@ -49,8 +53,8 @@ use Rattle.book.specs.declared.Done.{Done}
 use Rattle.book.specs.Instructing.{doneRefused}
 use Rattle.journal.specs.Calls.{Call}
 use Rattle.journal.specs.Played.{outcomeOf, eventOf, begun}
-use Rattle.examples.specs.Played.{opening, bookAfter, eventsOn, numbersOf, accepted, answersOf, shown, sale, closeAt, daysPass, toBuyIn, compensationPlayed, capOffers, capPlayed, matchPlayed, deliversPlayed, auctionOffers, equalOffers, auctionPlayed, collecting, everybodyPaid, monthPlayed, answerWithLines, answersWithLines, twoSales, againLent, reprintPlayed, boughtAt}
-use Rattle.examples.specs.Table.{table, boughtFrom, nthDay, dayNumber, oneOfThree, threeCash, compensatedFor, boughtInTwo, boughtInOne, twoPenalties, paidInFull, targetShown}
+use Rattle.examples.specs.Played.{opening, bookAfter, eventsOn, numbersOf, accepted, answerOf, answersOf, shown, sale, fromStart, closeAt, daysPass, toBuyIn, compensationPlayed, capOffers, capPlayed, matchPlayed, deliversPlayed, auctionOffers, equalOffers, auctionPlayed, collecting, everybodyPaid, monthPlayed, answerWithLines, answersWithLines, twoSales, againLent, reprintPlayed, boughtAt, openedFriday, soldFriday, ratesPlayed}
+use Rattle.examples.specs.Table.{table, boughtFrom, nthDay, dayNumber, oneOfThree, threeCash, compensatedFor, boughtInTwo, boughtInOne, twoPenalties, paidInFull, onePenalty, targetShown}
 
 -- the n-th clearing day is found by counting the clearing days up to it
 nth : (cs : List Day) (j e n : ℕ) → j ≤ e → e ≤ lastDay → clearing cs (day e) ≡ true → clearingWithin cs j (e - j) ≡ n →
@@ -75,7 +79,7 @@ example-9 = λ i. dayNumber (thirtieth i) ++ dayNumber (thirty-fifth i) ++ dayNu
 
 -- the rules that the rows are worked out by; a proof that unfolds this name unfolds them all
 unfoldable rules : ℕ
-unfolding total tableFrom countBelow rounded value penalty compensation dueFor cash cashOfEach charge tolerance amountsMatch aboveCap floorShare remainder centsLeft comesBefore rank extraCent share shares overtakes insertedBy rankedBy offersFor withGiven givenBy given boughtFrom among clearing clearingWithin ageAt closedDays listedDays closedRefused risesFrom answer opened openRefusals ageOf enterRefusals obligationOf enteredAlone enteredWith enter deliverRefusals deliverRefusalsOf deliver fetchOutcome offerRefusals offerRefusalsIn offerRefusalsOf offer fits firstFit lowestFit settledParts cashOf moving lastOf sides close closeBy closeWords closeRefusals closeRefusalsIn again againWords againRefusals nextAfter nextWithin flat then written course stages closedOne rowsUpTo linesUpTo fined accountsUpTo priced penaltyOn measuresAt penalised noticeAt boughtOffer boughtAll buyInAt compensated compensatedAt isDue paidOut month monthRefusals overCollected fetched linesRead debited credited transferred
+unfolding total tableFrom countBelow rounded value penalty compensation dueFor cash cashOfEach charge tolerance amountsMatch aboveCap floorShare remainder centsLeft comesBefore rank extraCent share shares overtakes insertedBy rankedBy offersFor withGiven givenBy given boughtFrom among clearing clearingWithin ageAt closedDays listedDays closedRefused risesFrom answer opened openRefusals ageOf enterRefusals obligationOf enteredAlone enteredWith enter deliverRefusals deliverRefusalsOf deliver fetchOutcome offerRefusals offerRefusalsIn offerRefusalsOf offer fits firstFit lowestFit settledParts cashOf moving lastOf sides holds placeOf withRow enteredRows withRate hasStarted orLater inForce lastKept noPlace rateRefusals rated close closeBy closeWords closeRefusals closeRefusalsIn again againWords againRefusals nextAfter nextWithin flat then written course stages closedOne rowsUpTo linesUpTo fined accountsUpTo priced penaltyOn measuresAt penalised noticeAt boughtOffer boughtAll buyInAt compensated compensatedAt isDue paidOut month monthRefusals overCollected fetched linesRead debited credited transferred
 rules = 0
 
 -- ---- journals of many days
@@ -84,9 +88,9 @@ pub opening-accepted : opened (opening .first) (opening .closed) (opening .terms
 unfolding rules
 opening-accepted = refl
 
--- the book once a sale of q units for a cents is entered
+-- the book once a rate of 0 and a sale of q units for a cents are entered
 abbrev sold : ℕ → ℕ → Book
-sold q a = bookAfter (begun opening .book) (sale 0 1 q a)
+sold q a = bookAfter (begun opening .book) (fromStart 0 ∷ sale 0 1 q a)
 
 -- The book of one obligation on a later day: today is that day, and this is the price of the Close at age = grace. The book
 -- keeps the line of the latest Close, a penalty of 0 cents.
@@ -101,7 +105,7 @@ abbrev goesOn : List Call → List Call → List ℕ → Book → List ℕ
 goesOn lead calls numbers b = numbers ++ numbersOf (eventsOn b lead) ++ answersOf (eventsOn (bookAfter b lead) calls)
 
 -- ten days after day 2 are accepted and lead to day 16, on which the age is grace
-ten-accepted : numbersOf (eventsOn (begun opening .book) (sale 0 1 10 1000000 ++ daysPass 10)) ≡ accepted 12
+ten-accepted : numbersOf (eventsOn (begun opening .book) (fromStart 0 ∷ sale 0 1 10 1000000 ++ daysPass 10)) ≡ accepted 13
 unfolding rules
 ten-accepted = refl
 
@@ -109,12 +113,12 @@ ten-later : bookAfter (sold 10 1000000) (daysPass 10) ≡ onDay 16 0 (sold 10 10
 unfolding rules
 ten-later = refl
 
-ten-days : (lead calls : List Call) → shown answersOf (sale 0 1 10 1000000 ++ daysPass 10 ++ lead) calls
-    ≡ goesOn lead calls (accepted 12) (onDay 16 0 (sold 10 1000000))
+ten-days : (lead calls : List Call) → shown answersOf (fromStart 0 ∷ sale 0 1 10 1000000 ++ daysPass 10 ++ lead) calls
+    ≡ goesOn lead calls (accepted 13) (onDay 16 0 (sold 10 1000000))
 ten-days lead calls = ap₂ (goesOn lead calls) ten-accepted ten-later
 
 -- thirteen days after day 2 are accepted and lead to day 19, on which the age is last
-thirteen-accepted : numbersOf (eventsOn (begun opening .book) (sale 0 1 1 1000 ++ daysPass 13)) ≡ accepted 15
+thirteen-accepted : numbersOf (eventsOn (begun opening .book) (fromStart 0 ∷ sale 0 1 1 1000 ++ daysPass 13)) ≡ accepted 16
 unfolding rules
 thirteen-accepted = refl
 
@@ -122,45 +126,45 @@ thirteen-later : bookAfter (sold 1 1000) (daysPass 13) ≡ onDay 19 100000 (sold
 unfolding rules
 thirteen-later = refl
 
-thirteen-days : (calls : List Call) → shown answersOf (sale 0 1 1 1000 ++ daysPass 13) calls
-    ≡ goesOn [] calls (accepted 15) (onDay 19 100000 (sold 1 1000))
+thirteen-days : (calls : List Call) → shown answersOf (fromStart 0 ∷ sale 0 1 1 1000 ++ daysPass 13) calls
+    ≡ goesOn [] calls (accepted 16) (onDay 19 100000 (sold 1 1000))
 thirteen-days calls = ap₂ (goesOn [] calls) thirteen-accepted thirteen-later
 
 -- X3, Settled examples: the Close on that day
-last-day : (goesOn [] (closeAt 100005 0 ∷ []) (accepted 15) (onDay 19 100000 (sold 1 1000)) ≡ accepted 15 ++ compensatedFor 10001)
-    × (goesOn [] (closeAt 100004 0 ∷ []) (accepted 15) (onDay 19 100000 (sold 1 1000)) ≡ accepted 15 ++ compensatedFor 10000)
+last-day : (goesOn [] (closeAt 100005 ∷ []) (accepted 16) (onDay 19 100000 (sold 1 1000)) ≡ accepted 16 ++ compensatedFor 10001)
+    × (goesOn [] (closeAt 100004 ∷ []) (accepted 16) (onDay 19 100000 (sold 1 1000)) ≡ accepted 16 ++ compensatedFor 10000)
 unfolding rules
 last-day = (refl, refl)
 
-example-3 : (compensationPlayed 100005 ≡ accepted 15 ++ compensatedFor 10001)
-    × (compensationPlayed 100004 ≡ accepted 15 ++ compensatedFor 10000)
-example-3 = (thirteen-days (closeAt 100005 0 ∷ []) ∙ last-day .0, thirteen-days (closeAt 100004 0 ∷ []) ∙ last-day .1)
+example-3 : (compensationPlayed 100005 ≡ accepted 16 ++ compensatedFor 10001)
+    × (compensationPlayed 100004 ≡ accepted 16 ++ compensatedFor 10000)
+example-3 = (thirteen-days (closeAt 100005 ∷ []) ∙ last-day .0, thirteen-days (closeAt 100004 ∷ []) ∙ last-day .1)
 
 -- X4, Settled examples: the Close at age = grace, and the offers of the next day
-capped : goesOn (closeAt 99999 0 ∷ []) capOffers (accepted 12) (onDay 16 0 (sold 10 1000000)) ≡ accepted 13 ++ 0 ∷ 18 ∷ []
+capped : goesOn (closeAt 99999 ∷ []) capOffers (accepted 13) (onDay 16 0 (sold 10 1000000)) ≡ accepted 14 ++ 0 ∷ 18 ∷ []
 unfolding rules
 capped = refl
 
-pub example-4 : capPlayed ≡ accepted 13 ++ 0 ∷ 18 ∷ []
-example-4 = ten-days (closeAt 99999 0 ∷ []) capOffers ∙ capped
+pub example-4 : capPlayed ≡ accepted 14 ++ 0 ∷ 18 ∷ []
+example-4 = ten-days (closeAt 99999 ∷ []) capOffers ∙ capped
 
 -- X10 and X14, Settled examples: the Close at age = grace, the offers of the next day and the Close of that day
 abbrev auctionFrom : List Call → List ℕ
 auctionFrom offers =
-    goesOn (closeAt 100000 0 ∷ []) (offers ++ closeAt 100000 0 ∷ []) (accepted 12) (onDay 16 0 (sold 10 1000000))
+    goesOn (closeAt 100000 ∷ []) (offers ++ closeAt 100000 ∷ []) (accepted 13) (onDay 16 0 (sold 10 1000000))
 
-bought : (auctionFrom auctionOffers ≡ accepted 16 ++ boughtInTwo)
-    × (auctionFrom equalOffers ≡ accepted 15 ++ boughtInOne)
+bought : (auctionFrom auctionOffers ≡ accepted 17 ++ boughtInTwo)
+    × (auctionFrom equalOffers ≡ accepted 16 ++ boughtInOne)
 unfolding rules
 bought = (refl, refl)
 
 auction : (offers : List Call) → auctionPlayed offers ≡ auctionFrom offers
-auction offers = ten-days (closeAt 100000 0 ∷ []) (offers ++ closeAt 100000 0 ∷ [])
+auction offers = ten-days (closeAt 100000 ∷ []) (offers ++ closeAt 100000 ∷ [])
 
-pub example-10 : auctionPlayed auctionOffers ≡ accepted 16 ++ boughtInTwo
+pub example-10 : auctionPlayed auctionOffers ≡ accepted 17 ++ boughtInTwo
 example-10 = auction auctionOffers ∙ bought .0
 
-pub example-14 : auctionPlayed equalOffers ≡ accepted 15 ++ boughtInOne
+pub example-14 : auctionPlayed equalOffers ≡ accepted 16 ++ boughtInOne
 example-14 = auction equalOffers ∙ bought .1
 
 -- ---- journals of one day
@@ -179,7 +183,7 @@ unfolding rules
 example-7 = refl
 
 -- X8, Settled examples: the first of its two Months
-example-8 : monthPlayed twoSales (collecting 100) ≡ accepted 5 ++ 0 ∷ 67 ∷ 33 ∷ 0 ∷ []
+example-8 : monthPlayed twoSales (collecting 100) ≡ accepted 6 ++ 0 ∷ 67 ∷ 33 ∷ 0 ∷ []
 unfolding rules
 example-8 = refl
 
@@ -191,7 +195,7 @@ month-leaves b cs places =
 
 -- X11, Settled examples: the book of its sales after the Close, which is the book of the first Month of X8
 abbrev pub closedOnce : Book
-closedOnce = bookAfter (begun opening .book) (twoSales ++ closeAt 100000 10 ∷ [])
+closedOnce = bookAfter (begun opening .book) (fromStart 10 ∷ twoSales ++ closeAt 100000 ∷ [])
 
 -- a Month answers its number alone
 month-alone : (b : Book) → answerWithLines (eventOf b (collecting 100)) ≡ outcomeOf b (collecting 100) .answer ∷ []
@@ -201,21 +205,21 @@ month-alone b = refl
 -- what the journal shows, where this is what the Month answers, and it leaves this book
 abbrev reprinted : List ℕ → Book → List ℕ
 reprinted answer b =
-    numbersOf (eventsOn (begun opening .book) twoSales)
-    ++ (answerWithLines (eventOf (bookAfter (begun opening .book) twoSales) (closeAt 100000 10)) ++ (answer ++ answersWithLines (eventsOn b (againLent ∷ []))))
+    numbersOf (eventsOn (begun opening .book) (fromStart 10 ∷ twoSales))
+    ++ (answerWithLines (eventOf (bookAfter (begun opening .book) (fromStart 10 ∷ twoSales)) (closeAt 100000)) ++ (answer ++ answersWithLines (eventsOn b (againLent ∷ []))))
 
-reprint-lines : reprinted (0 ∷ []) (monthBook closedOnce) ≡ accepted 4 ++ twoPenalties ++ (0 ∷ []) ++ twoPenalties
+reprint-lines : reprinted (0 ∷ []) (monthBook closedOnce) ≡ accepted 5 ++ twoPenalties ++ (0 ∷ []) ++ twoPenalties
 unfolding rules
 reprint-lines = refl
 
 -- the Month is accepted, and this is the book after it
 accepted-month : outcomeOf closedOnce (collecting 100) .answer ≡ 0
-accepted-month = ap (λ (l : List ℕ). getD l 5 0) example-8
+accepted-month = ap (λ (l : List ℕ). getD l 6 0) example-8
 
 after-month : outcomeOf closedOnce (collecting 100) .book ≡ monthBook closedOnce
 after-month = month-leaves closedOnce _ _ accepted-month
 
-pub example-11 : reprintPlayed ≡ accepted 4 ++ twoPenalties ++ (0 ∷ []) ++ twoPenalties
+pub example-11 : reprintPlayed ≡ accepted 5 ++ twoPenalties ++ (0 ∷ []) ++ twoPenalties
 example-11 = ap₂ reprinted (month-alone closedOnce ∙ ap (λ (n : ℕ). n ∷ []) accepted-month) after-month ∙ reprint-lines
 
 -- X11, Settled examples: how many lines an Again gives, and the cents of the first two lines that then stand in its list
@@ -242,11 +246,11 @@ example-12 = (refl, refl)
 
 -- X10 and X14, Settled examples: the list of the Close that follows these offers, as it ends
 abbrev pub listAfter : List Call → List ℕ
-listAfter offers = closeWords (bookAfter (begun opening .book) (toBuyIn 100000 ++ offers)) 100000 0 (replicate fewestWords 0)
+listAfter offers = closeWords (bookAfter (begun opening .book) (toBuyIn 100000 ++ offers)) 100000 (replicate fewestWords 0)
 
 -- the same list, from the book at age = grace
 abbrev listFrom : List Call → Book → List ℕ
-listFrom offers b = closeWords (bookAfter b (closeAt 100000 0 ∷ offers)) 100000 0 (replicate fewestWords 0)
+listFrom offers b = closeWords (bookAfter b (closeAt 100000 ∷ offers)) 100000 (replicate fewestWords 0)
 
 lines-there : (boughtAt 1 (listFrom auctionOffers (onDay 16 0 (sold 10 1000000))) ≡ 2 ∷ 5 ∷ 2500 ∷ [])
     × (boughtAt 2 (listFrom auctionOffers (onDay 16 0 (sold 10 1000000))) ≡ 1 ∷ 5 ∷ 5000 ∷ [])
@@ -264,6 +268,43 @@ example-10-lines = (line-read 1 auctionOffers ∙ lines-there .0, line-read 2 au
 pub example-14-line : boughtAt 1 (listAfter equalOffers) ≡ 1 ∷ 10 ∷ 10000 ∷ []
 example-14-line = line-read 1 equalOffers ∙ lines-there .2
 
+-- X15, Settled examples: the book of day 6 with its rates and its sale
+abbrev pub friday : Book
+friday = bookAfter (begun openedFriday .book) soldFriday
+
+-- the book after the Close of day 6: today is day 9, and the penalty has passed from member 3 to member 0
+abbrev monday : Book
+monday =
+    withLast (keptFrom (plainLine penaltyKind 0 1000 1000 ∷ []))
+    (withDay (record { today = day 9; «close_since» = true; «has_closed» = true }) (record {
+      obligations = friday .ledger .obligations;
+      count = 1;
+      offers = noOffers;
+      accounts = transferred 3 0 1000 (friday .ledger .accounts);
+    }) friday)
+
+to-monday : outcomeOf friday (closeAt 100000) .book ≡ monday
+unfolding rules
+to-monday = refl
+
+-- what the journal shows, if this is the book after the Close of day 6
+abbrev fridayAnd : Book → List ℕ
+fridayAnd b = numbersOf (eventsOn (begun openedFriday .book) soldFriday) ++ (answerOf (eventOf friday (closeAt 100000)) ++ answersOf (eventsOn b (closeAt 100000 ∷ [])))
+
+both-days : fridayAnd monday ≡ accepted 4 ++ onePenalty 1000 ++ onePenalty 2000
+unfolding rules
+both-days = refl
+
+pub example-15 : ratesPlayed ≡ accepted 4 ++ onePenalty 1000 ++ onePenalty 2000
+example-15 = ap fridayAnd to-monday ∙ both-days
+
+-- the cents in the lists of the two Closes as they end, and how many lines the second one has
+pub example-15-words : (getD (closeWords friday 100000 (replicate fewestWords 0)) 3 0 ≡ 1000)
+    × (close (close friday 100000 fewestWords .book) 100000 fewestWords .count ≡ 1)
+    × (getD (closeWords (close friday 100000 fewestWords .book) 100000 (replicate fewestWords 0)) 3 0 ≡ 2000)
+unfolding rules
+example-15-words = (refl, refl, refl)
+
 -- X13, Settled examples: the closed days of 2000
 pub example-13 : targetShown 2000 ≡ 0 ∷ 6 ∷ 0 ∷ 111 ∷ 114 ∷ 121 ∷ 359 ∷ 360 ∷ 9 ∷ []
 unfolding total isLeap monthsOf daysOfYears newYear dateOf sunCorrection moonCorrection plainEpact epact marchMoon fullMoon sundayFrom easter
@@ -275,4 +316,4 @@ example-13 = refl
 pub settled : Every (λ r. r .computed ≡ r .settled) table
 unfolding rules
 settled =
-    also refl (also refl (also refl (also refl (also refl (also refl (also refl (also refl (also refl (also example-9 (also refl (also refl (also refl (also refl (also refl (also (example-3 .0) (also (example-3 .1) (also example-4 (also example-5 (also example-6 (also example-7 (also example-8 (also refl (also example-10 (also example-14 (also example-11 (also (ap₂ _++_ (example-12 .0) (example-12 .1)) (also example-13 nobody)))))))))))))))))))))))))))
+    also refl (also refl (also refl (also refl (also refl (also refl (also refl (also refl (also refl (also example-9 (also refl (also refl (also refl (also refl (also refl (also (example-3 .0) (also (example-3 .1) (also example-4 (also example-5 (also example-6 (also example-7 (also example-8 (also refl (also example-10 (also example-14 (also example-11 (also (ap₂ _++_ (example-12 .0) (example-12 .1)) (also refl (also example-15 (also example-13 nobody)))))))))))))))))))))))))))))

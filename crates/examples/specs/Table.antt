@@ -16,7 +16,9 @@ use Rattle.offers.specs.declared.Offer.{Offer}
 use Rattle.offers.specs.declared.Given.{Given}
 use Rattle.offers.specs.Rank.{ranked}
 use Rattle.offers.specs.BuyIn.{given}
-use Rattle.examples.specs.Played.{accepted, sale, penaltyPlayed, compensationPlayed, capPlayed, matchPlayed, deliversPlayed, twoSales, collecting, monthPlayed, auctionOffers, equalOffers, auctionPlayed, reprintPlayed, monthsPlayed}
+use Rattle.rates.specs.Rows.{rowOf, enteredRows}
+use Rattle.rates.specs.Force.{inForce, rateOf}
+use Rattle.examples.specs.Played.{accepted, sale, penaltyPlayed, compensationPlayed, capPlayed, matchPlayed, deliversPlayed, twoSales, collecting, monthPlayed, auctionOffers, equalOffers, auctionPlayed, reprintPlayed, monthsPlayed, ratesPlayed}
 
 -- a row of the table: the number of the example, what the definitions give, and what is settled
 pub record Row : Type 0 where
@@ -99,17 +101,26 @@ boughtInOne = (0 ∷ 2 ∷ []) ++ (1 ∷ 0 ∷ 10 ∷ 0 ∷ 0 ∷ 0 ∷ []) ++ 3
 abbrev pub twoPenalties : List ℕ
 twoPenalties = (0 ∷ 2 ∷ []) ++ (1 ∷ 0 ∷ 200 ∷ 200 ∷ 0 ∷ 0 ∷ []) ++ 1 ∷ 1 ∷ 100 ∷ 100 ∷ 0 ∷ 0 ∷ []
 
--- X12, Settled examples: what each of the two journals shows: five accepted calls, and a Month that pays 200 and 100
+-- X12, Settled examples: what each of the two journals shows: six accepted calls, and a Month that pays 200 and 100
 -- cents
 abbrev pub paidInFull : List ℕ
-paidInFull = accepted 5 ++ 0 ∷ 200 ∷ 100 ∷ 0 ∷ []
+paidInFull = accepted 6 ++ 0 ∷ 200 ∷ 100 ∷ 0 ∷ []
 
 -- X13, Settled examples: what a Target for one year shows if it is lent seven words, each of them 9: its answer number,
 -- how many days it wrote, and the words
 abbrev pub targetShown : ℕ → List ℕ
 targetShown year = target year year 7 .answer ∷ target year year 7 .count ∷ targetWords year year (replicate 7 9)
 
--- X1 to X14, Settled examples: the table of the examples, first by the definitions that each example speaks of, then as
+-- X15, Settled examples: the rate in force on a day, if a rate of 20 with the starting day 7 was entered first and then
+-- one of 10 with the starting day 6
+abbrev pub rateOn : ℕ → ℕ
+rateOn d = rateOf (inForce (day d) (enteredRows (rowOf (day 6) 10 ∷ rowOf (day 7) 20 ∷ [])))
+
+-- X15, Settled examples: what a Close answers that has one line, a penalty on 1,000 units
+abbrev pub onePenalty : ℕ → List ℕ
+onePenalty cents = (0 ∷ 1 ∷ []) ++ 1 ∷ 0 ∷ 1000 ∷ cents ∷ 0 ∷ 0 ∷ []
+
+-- X1 to X15, Settled examples: the table of the examples, first by the definitions that each example speaks of, then as
 -- calls after an Open
 abbrev pub table : List Row
 table =
@@ -146,20 +157,20 @@ table =
       computed = auctionOf (offerOf 2 12 101000 ∷ offerOf 1 10 101000 ∷ []);
       settled = 1 ∷ 10 ∷ 10000 ∷ [];
     }
-    ∷ record { item = 1; computed = penaltyPlayed 1000 100000; settled = accepted 2 ++ 0 ∷ 1 ∷ 1 ∷ 0 ∷ 1000 ∷ 1000 ∷ 0 ∷ 0 ∷ [] }
-    ∷ record { item = 2; computed = penaltyPlayed 1 50000; settled = accepted 2 ++ 0 ∷ 1 ∷ 1 ∷ 0 ∷ 1 ∷ 1 ∷ 0 ∷ 0 ∷ [] }
-    ∷ record { item = 2; computed = penaltyPlayed 1 49999; settled = accepted 2 ++ 0 ∷ 1 ∷ 1 ∷ 0 ∷ 1 ∷ 0 ∷ 0 ∷ 0 ∷ [] }
+    ∷ record { item = 1; computed = penaltyPlayed 1000 100000; settled = accepted 3 ++ 0 ∷ 1 ∷ 1 ∷ 0 ∷ 1000 ∷ 1000 ∷ 0 ∷ 0 ∷ [] }
+    ∷ record { item = 2; computed = penaltyPlayed 1 50000; settled = accepted 3 ++ 0 ∷ 1 ∷ 1 ∷ 0 ∷ 1 ∷ 1 ∷ 0 ∷ 0 ∷ [] }
+    ∷ record { item = 2; computed = penaltyPlayed 1 49999; settled = accepted 3 ++ 0 ∷ 1 ∷ 1 ∷ 0 ∷ 1 ∷ 0 ∷ 0 ∷ 0 ∷ [] }
     ∷ record {
       item = 3;
       computed = compensationPlayed 100005;
-      settled = accepted 15 ++ compensatedFor 10001;
+      settled = accepted 16 ++ compensatedFor 10001;
     }
     ∷ record {
       item = 3;
       computed = compensationPlayed 100004;
-      settled = accepted 15 ++ compensatedFor 10000;
+      settled = accepted 16 ++ compensatedFor 10000;
     }
-    ∷ record { item = 4; computed = capPlayed; settled = accepted 13 ++ 0 ∷ 18 ∷ [] }
+    ∷ record { item = 4; computed = capPlayed; settled = accepted 14 ++ 0 ∷ 18 ∷ [] }
     ∷ record {
       item = 5;
       computed = matchPlayed 10000000 10000201 10000200;
@@ -174,29 +185,31 @@ table =
     ∷ record {
       item = 8;
       computed = monthPlayed twoSales (collecting 100);
-      settled = accepted 5 ++ 0 ∷ 67 ∷ 33 ∷ 0 ∷ [];
+      settled = accepted 6 ++ 0 ∷ 67 ∷ 33 ∷ 0 ∷ [];
     }
     ∷ record {
       item = 8;
       computed = monthPlayed (sale 3 0 100 1000 ++ sale 3 1 100 1000 ++ sale 3 2 100 1000) (collecting 100);
-      settled = accepted 7 ++ 0 ∷ 34 ∷ 33 ∷ 33 ∷ [];
+      settled = accepted 8 ++ 0 ∷ 34 ∷ 33 ∷ 33 ∷ [];
     }
     ∷ record {
       item = 10;
       computed = auctionPlayed auctionOffers;
-      settled = accepted 16 ++ boughtInTwo;
+      settled = accepted 17 ++ boughtInTwo;
     }
     -- Up to edition 3 the line of kind 3 was 3 0 10 10000 2 101000.
     ∷ record {
       item = 14;
       computed = auctionPlayed equalOffers;
-      settled = accepted 15 ++ boughtInOne;
+      settled = accepted 16 ++ boughtInOne;
     }
     ∷ record {
       item = 11;
       computed = reprintPlayed;
-      settled = accepted 4 ++ twoPenalties ++ (0 ∷ []) ++ twoPenalties;
+      settled = accepted 5 ++ twoPenalties ++ (0 ∷ []) ++ twoPenalties;
     }
     ∷ record { item = 12; computed = monthsPlayed; settled = paidInFull ++ paidInFull }
+    ∷ record { item = 15; computed = rateOn 5 ∷ rateOn 6 ∷ rateOn 7 ∷ rateOn 9 ∷ []; settled = 0 ∷ 10 ∷ 20 ∷ 20 ∷ [] }
+    ∷ record { item = 15; computed = ratesPlayed; settled = accepted 4 ++ onePenalty 1000 ++ onePenalty 2000 }
     ∷ record { item = 13; computed = targetShown 2000; settled = 0 ∷ 6 ∷ 0 ∷ 111 ∷ 114 ∷ 121 ∷ 359 ∷ 360 ∷ 9 ∷ [] }
     ∷ []

@@ -211,7 +211,8 @@ fn main() {
         + played::auction()
         + played::equal_prices()
         + played::reprint()
-        + played::everybody_paid();
+        + played::everybody_paid()
+        + played::starting_days();
     io::print_decimal(STDOUT_FILENO, differ + played_differ);
     io::write_all(STDOUT_FILENO, b" answers differ from the settled ones\n");
 }

@@ -12,7 +12,7 @@ ghost use Rattle.ledger.specs.Lines.{mostLines, fewestWords};
 ghost use Rattle.book.specs.Book.{Valid};
 ghost use Rattle.journal.specs.Calls.{offer};
 ghost use Rattle.journal.specs.Played.{begun};
-ghost use Rattle.examples.specs.Played.{opening, bookAfter, sale, closeAt, daysPass, toBuyIn, accepted, matchPlayed, twoSales, boughtAt};
+ghost use Rattle.examples.specs.Played.{opening, bookAfter, saleOn, fromStart, closeAt, daysPass, toBuyIn, accepted, matchPlayed, twoSales, boughtAt, openedFriday, soldFriday};
 ghost use Rattle.examples.specs.Table.{oneOfThree};
 
 // The book of an Open on day 2, without closed days and by terms 1.
@@ -25,34 +25,35 @@ fn opened() -> Book
     opened.book
 }
 
-// A book with a sale, due on day 2.
-fn with_sale(book: Book, seller: u64, buyer: u64, quantity: u64, amount: u64) -> Book
-    requires { ⌜ Valid book ⌝ }
-    ensures { λ r. ⌜ r ≡ bookAfter book (sale seller buyer quantity amount) ⌝ }
+// The book of the Open with a rate from its first day on.
+fn rated(rate: u64) -> Book
+    ensures { λ r. ⌜ r ≡ bookAfter (begun opening .book) (fromStart rate ∷ []) ⌝ }
     ensures { λ r. ⌜ Valid r ⌝ }
 {
-    let delivers = book.enter(seller, buyer, 0, quantity, amount, Day(2));
+    let entered = opened().rate(Day(2), rate);
+    entered.book
+}
+
+// A book with a sale that is due on a day.
+fn with_sale(book: Book, due: u64, seller: u64, buyer: u64, quantity: u64, amount: u64) -> Book
+    requires { ⌜ Valid book ⌝ }
+    ensures { λ r. ⌜ r ≡ bookAfter book (saleOn due seller buyer quantity amount) ⌝ }
+    ensures { λ r. ⌜ Valid r ⌝ }
+{
+    let delivers = book.enter(seller, buyer, 0, quantity, amount, Day(due));
     let one = delivers.book;
-    let receives = one.enter(buyer, seller, 1, quantity, amount, Day(2));
+    let receives = one.enter(buyer, seller, 1, quantity, amount, Day(due));
     receives.book
 }
 
-// The book of the Open with a sale of member 0 to member 1.
-fn sold(quantity: u64, amount: u64) -> Book
-    ensures { λ r. ⌜ r ≡ bookAfter (begun opening .book) (sale 0 1 quantity amount) ⌝ }
-    ensures { λ r. ⌜ Valid r ⌝ }
-{
-    with_sale(opened(), 0, 1, quantity, amount)
-}
-
-// A Close without penalties, which ends the day.
+// A Close, which ends the day.
 fn day_ends(book: Book, price: u64) -> Book
     requires { ⌜ Valid book ⌝ }
-    ensures { λ r. ⌜ r ≡ bookAfter book (closeAt price 0 ∷ []) ⌝ }
+    ensures { λ r. ⌜ r ≡ bookAfter book (closeAt price ∷ []) ⌝ }
     ensures { λ r. ⌜ Valid r ⌝ }
 {
     let mut lines = [0u64; FEWEST_WORDS];
-    let closed = book.close(price, 0, &mut lines);
+    let closed = book.close(price, &mut lines);
     closed.book
 }
 
@@ -76,7 +77,10 @@ fn in_buy_in(price: u64) -> Book
     ensures { λ r. ⌜ r ≡ bookAfter (begun opening .book) (toBuyIn price) ⌝ }
     ensures { λ r. ⌜ Valid r ⌝ }
 {
-    day_ends(days_pass(sold(10, 1_000_000), 10), price)
+    day_ends(
+        days_pass(with_sale(rated(0), 2, 0, 1, 10, 1_000_000), 10),
+        price,
+    )
 }
 
 // Example 4: two offers over a Close at 99,999.
@@ -119,7 +123,8 @@ pub fn tolerance() -> u64
 pub fn deliveries() -> u64
     ensures { λ r. ⌜ r ≡ 0 ⌝ }
 {
-    let first = sold(3, 1_000).deliver(0, 1);
+    let sold = with_sale(opened(), 2, 0, 1, 3, 1_000);
+    let first = sold.deliver(0, 1);
     let one = first.book;
     let second = one.deliver(0, 1);
     let two = second.book;
@@ -156,7 +161,7 @@ pub fn auction() -> u64
     let second = with_offer(first, 2, 5, 100_500);
     let third = with_offer(second, 3, 7, 101_000);
     let mut lines = [0u64; FEWEST_WORDS];
-    let closed = third.close(100_000, 0, &mut lines);
+    let closed = third.close(100_000, &mut lines);
     compared(10, closed.count as u64, 3)
         + bought(10, &lines, 1, 2, 5, 2_500)
         + bought(10, &lines, 2, 1, 5, 5_000)
@@ -169,18 +174,25 @@ pub fn equal_prices() -> u64
     let first = with_offer(in_buy_in(100_000), 1, 10, 101_000);
     let second = with_offer(first, 2, 12, 101_000);
     let mut lines = [0u64; FEWEST_WORDS];
-    let closed = second.close(100_000, 0, &mut lines);
+    let closed = second.close(100_000, &mut lines);
     compared(14, closed.count as u64, 2) + bought(14, &lines, 1, 1, 10, 10_000)
 }
 
-// The book of the Open with two sales of member 3, after the Close of their day.
+// The book of the Open with a rate of 10 and two sales of member 3, after the Close of their day.
 fn closed_once() -> Book
-    ensures { λ r. ⌜ r ≡ bookAfter (begun opening .book) (twoSales ++ closeAt 100000 10 ∷ []) ⌝ }
+    ensures { λ r. ⌜ r ≡ bookAfter (begun opening .book) (fromStart 10 ∷ twoSales ++ closeAt 100000 ∷ []) ⌝ }
     ensures { λ r. ⌜ Valid r ⌝ }
 {
-    let sold = with_sale(with_sale(opened(), 3, 0, 200, 1_000), 3, 1, 100, 1_000);
+    let sold = with_sale(
+        with_sale(rated(10), 2, 3, 0, 200, 1_000),
+        2,
+        3,
+        1,
+        100,
+        1_000,
+    );
     let mut lines = [0u64; FEWEST_WORDS];
-    let closed = sold.close(100_000, 10, &mut lines);
+    let closed = sold.close(100_000, &mut lines);
     closed.book
 }
 
@@ -213,4 +225,33 @@ pub fn everybody_paid() -> u64
         + compared(12, empty[0], 200)
         + compared(12, typed[1], 100)
         + compared(12, empty[1], 100)
+}
+
+// The book of example 15: it opens on day 6 with two rates, which were entered in falling order of their starting days.
+fn on_friday() -> Book
+    ensures { λ r. ⌜ r ≡ bookAfter (begun openedFriday .book) soldFriday ⌝ }
+    ensures { λ r. ⌜ Valid r ⌝ }
+{
+    let none = [0u64; 0];
+    let opened = Book::open(Day(6), &none, 1);
+    let fresh = opened.book;
+    let ahead = fresh.rate(Day(7), 20);
+    let one = ahead.book;
+    let current = one.rate(Day(6), 10);
+    let two = current.book;
+    with_sale(two, 6, 3, 0, 1_000, 1_000)
+}
+
+// Example 15: the penalties of a Friday and of the Monday after it, between which another rate starts.
+pub fn starting_days() -> u64
+    ensures { λ r. ⌜ r ≡ 0 ⌝ }
+{
+    let mut lines = [0u64; FEWEST_WORDS];
+    let friday = on_friday().close(100_000, &mut lines);
+    let monday = friday.book;
+    let mut later = [0u64; FEWEST_WORDS];
+    let closed = monday.close(100_000, &mut later);
+    compared(15, lines[3], 1_000)
+        + compared(15, closed.count as u64, 1)
+        + compared(15, later[3], 2_000)
 }

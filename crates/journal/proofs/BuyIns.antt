@@ -1,7 +1,7 @@
 -- At every accepted Close the offers are taken in their order: `known-bought` at the end.
 use Prim.Native.Nat.{ℕ}
 use native.Mathlib.Omega.{arith}
-use mathlib.Core.Path.{_≡_, refl, sym, ap, ap₂, subst⁻¹, _∙_}
+use mathlib.Core.Path.{_≡_, refl, sym, ap, ap₂, _∙_}
 use mathlib.Core.Bool.{Bool, true, false, _&&_, false≢true}
 use mathlib.Core.List.{List, [], _∷_, _++_, map, append-nil}
 use mathlib.Core.Option.{Option, none, some}
@@ -31,8 +31,7 @@ use Rattle.book.specs.declared.Book.{Book}
 use Rattle.book.specs.Book.{ageOf}
 use Rattle.book.proofs.Outcomes.{Ends}
 use Rattle.book.proofs.Ended.{ends-age, ends-last, ends-due}
-use Rattle.journal.specs.Calls.{Opening, Call, Event, Run}
-use Rattle.journal.specs.Played.{outcomeOf, eventOf, played, callsOf}
+use Rattle.journal.specs.Calls.{Opening, Event, Run}
 use Rattle.journal.specs.Facts.{Instructed, partOfKind, isPart, Ended, isEnd, reported, facts}
 use Rattle.journal.specs.Sums.{termsIn, ageIn, lastIn}
 use Rattle.journal.specs.History.{offersIn}
@@ -40,10 +39,9 @@ use Rattle.journal.specs.Promise.{Purchase, purchasesIn, purchaseFrom, B
 use Rattle.journal.proofs.Moves.{Held, Agrees, told-held, outstanding-is, age-is, last-is}
 use Rattle.journal.proofs.Turns.{reached}
 use Rattle.journal.proofs.Reported.{purchases-one}
-use Rattle.journal.proofs.Model.{Known, played-known}
-use Rattle.journal.proofs.Recalling.{Recalls, played-recalls}
+use Rattle.journal.proofs.Model.{Known}
+use Rattle.journal.proofs.Recalling.{Recalls, each-known}
 use Rattle.journal.proofs.Does.{Does}
-use Rattle.journal.proofs.Every.{call-does}
 
 -- ---- the lines of one obligation
 purchases-append : (n : ℕ) (xs ys : List Line) → purchasesIn n (xs ++ ys) ≡ purchasesIn n xs ++ purchasesIn n ys
@@ -133,15 +131,5 @@ module _ (o : Opening) (b : Book) (es : List Event) (g : Agrees o b es) (k : Rec
       by (some y) q r = let c = d .closes y q in rw (c .lines) (close-bought (c .end) (c .ends))
 
 -- ---- every run
-abbrev RunBought : Run → Type 0
-RunBought s = EveryBuyIn (s .opening) (s .past)
-
-played-bought : (o : Opening) (cs : List Call) → RunBought (played o cs)
-played-bought o [] = tt
-played-bought o (c ∷ earlier) =
-    let s = played o earlier in
-    let g = played-known o earlier .agrees in
-    (ended-bought (s .opening) (s .book) (s .past) g (played-recalls o earlier) (outcomeOf (s .book) c .book) (eventOf (s .book) c) (call-does (s .book) (g .valid) c), played-bought o earlier)
-
 pub known-bought : (s : Run) → Known s → EveryBuyIn (s .opening) (s .past)
-known-bought s k = subst⁻¹ RunBought (k .answered) (played-bought (s .opening) (callsOf (s .past)))
+known-bought = each-known _ (λ o b after es e g k d. ended-bought o b es g k after e d)

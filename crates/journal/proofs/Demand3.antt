@@ -35,7 +35,7 @@ use Rattle.journal.specs.Calls.{Opening, Call, Run}
 use Rattle.journal.specs.Played.{Outcome, ofDone, ofEntered, ofCancelled, ofDelivered, ofClosed, ofPaid, after, played, callsOf}
 use Rattle.journal.specs.Facts.{Instructed}
 use Rattle.journal.specs.Sums.{instructedIn, debtsIn}
-use Rattle.journal.specs.Promise.{StatusShows, AccountShows, LookShows, AgainShows, EveryMonth, EveryBuyIn, EveryCapPrice}
+use Rattle.journal.specs.Promise.{StatusShows, AccountShows, LookShows, AgainShows, EveryMonth, EveryPenalty, EveryBuyIn, EveryCapPrice}
 
 -- J1, Whole journals: a call on a book with any arguments and any lent lists, and what came of it. The result, and the lent
 -- lists as the call ended, are any that the contract of the function allows.
@@ -50,8 +50,10 @@ pub data Called (b : Book) : Call → Outcome → Type 0 where
       code.deliver.Reads.Learnt tt (b, (n, (q, tt))) r x → Called b (Call.deliver n q) (ofDelivered r)
   offered : (n supplier q price : ℕ) (r : Done) (x : _) →
       code.offer.Reads.Learnt tt (b, (n, (supplier, (q, (price, tt))))) r x → Called b (Call.offer n supplier q price) (ofDone r)
-  closed : (κs : Lfts 1) (price rate : ℕ) (lines : RefT (List ℕ)) (r : Closed) (x : _) →
-      code.close.Reads.Learnt κs (b, (price, (rate, (lines, tt)))) r x → Called b (Call.close price rate (now lines)) (ofClosed r (now (x .1 .1 .1 .0)))
+  rated : (start : Day) (rate : ℕ) (r : Done) (x : _) →
+      code.rate.Reads.Learnt tt (b, (start, (rate, tt))) r x → Called b (Call.rate start rate) (ofDone r)
+  closed : (κs : Lfts 1) (price : ℕ) (lines : RefT (List ℕ)) (r : Closed) (x : _) →
+      code.close.Reads.Learnt κs (b, (price, (lines, tt))) r x → Called b (Call.close price (now lines)) (ofClosed r (now (x .1 .1 .0)))
   repeated : (κs : Lfts 1) (lines : RefT (List ℕ)) (r : Closed) (x : _) →
       code.again.Reads.Learnt κs (b, (lines, tt)) r x → Called b (Call.again (now lines)) (ofClosed r (now (x .1 .0)))
   settled : (κs : Lfts 2) (collected payouts : RefT (List ℕ)) (r : Done) (x : _) →
@@ -76,7 +78,8 @@ May b (Call.withdraw leg member) = code.withdraw.Reads.Asked tt (b, (leg, (membe
 May b (Call.cancel n member) = code.cancel.Reads.Asked tt (b, (n, (member, tt)))
 May b (Call.deliver n q) = code.deliver.Reads.Asked tt (b, (n, (q, tt)))
 May b (Call.offer n supplier q price) = code.offer.Reads.Asked tt (b, (n, (supplier, (q, (price, tt)))))
-May b (Call.close price rate lines) = (κs : Lfts 1) (ls : RefT (List ℕ)) → code.close.Reads.Asked κs (b, (price, (rate, (ls, tt))))
+May b (Call.rate start rate) = code.rate.Reads.Asked tt (b, (start, (rate, tt)))
+May b (Call.close price lines) = (κs : Lfts 1) (ls : RefT (List ℕ)) → code.close.Reads.Asked κs (b, (price, (ls, tt)))
 May b (Call.again lines) = (κs : Lfts 1) (ls : RefT (List ℕ)) → code.again.Reads.Asked κs (b, (ls, tt))
 May b (Call.month collected payouts) = (κs : Lfts 2) (cs ps : RefT (List ℕ)) → code.month.Reads.Asked κs (b, (cs, (ps, tt)))
 
@@ -136,6 +139,8 @@ pub record Promise (s : Run) : Type 1 where
   pub typed-or-empty : SameAsEmpty (s .book) (debtsIn (s .past))
   -- C7 and C8: at each accepted Close the offers for each obligation in its buy-in days are taken in the order of C7
   pub buy-ins : EveryBuyIn (s .opening) (s .past)
+  -- J18: at each accepted Close the cents of each penalty are those of its price and of the rate in force by the events
+  pub penalties : EveryPenalty (s .opening) (s .past)
   -- B9: every obligation whose age is above grace has had its Close at age = grace, which left a price for the cap
   pub cap-prices : EveryCapPrice (s .opening) (s .past)
   -- G1: every call may follow, with any arguments and lent lists, since what its contract requires holds
@@ -176,6 +181,7 @@ pub record Demand3 (M : Type 1) : Type 2 where
   pub cancel-code : Code M code.cancel.Statement.statement 0 code.cancel.Kinds.ps code.cancel.Kinds.r code.cancel.Symbol.routine code.cancel.Reads.Asked code.cancel.Reads.Learnt
   pub deliver-code : Code M code.deliver.Statement.statement 0 code.deliver.Kinds.ps code.deliver.Kinds.r code.deliver.Symbol.routine code.deliver.Reads.Asked code.deliver.Reads.Learnt
   pub offer-code : Code M code.offer.Statement.statement 0 code.offer.Kinds.ps code.offer.Kinds.r code.offer.Symbol.routine code.offer.Reads.Asked code.offer.Reads.Learnt
+  pub rate-code : Code M code.rate.Statement.statement 0 code.rate.Kinds.ps code.rate.Kinds.r code.rate.Symbol.routine code.rate.Reads.Asked code.rate.Reads.Learnt
   pub close-code : Code M code.close.Statement.statement 1 code.close.Kinds.ps code.close.Kinds.r code.close.Symbol.routine code.close.Reads.Asked code.close.Reads.Learnt
   pub again-code : Code M code.again.Statement.statement 1 code.again.Kinds.ps code.again.Kinds.r code.again.Symbol.routine code.again.Reads.Asked code.again.Reads.Learnt
   pub month-code : Code M code.month.Statement.statement 2 code.month.Kinds.ps code.month.Kinds.r code.month.Symbol.routine code.month.Reads.Asked code.month.Reads.Learnt

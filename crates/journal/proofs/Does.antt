@@ -14,6 +14,9 @@ use Rattle.calendar.specs.declared.NextDay.the-variants.{At}
 use Rattle.offers.specs.declared.Offer.{Offer}
 use Rattle.offers.specs.Rank.{ranked}
 use Rattle.offers.specs.Held.{listedOffers}
+use Rattle.rates.specs.declared.RateRow.{RateRow}
+use Rattle.rates.specs.Rows.{enteredRows, listedRates}
+use Rattle.rates.specs.Force.{isUnset, rateOf}
 use Rattle.instructions.specs.Legs.{entered}
 use Rattle.ledger.specs.Lines.{wordsInLine}
 use Rattle.ledger.specs.declared.Ledger.{Ledger}
@@ -24,7 +27,7 @@ use Rattle.book.specs.declared.Book.{Book}
 use Rattle.book.specs.Book.{Valid}
 use Rattle.closing.specs.declared.DayEnd.{DayEnd}
 use Rattle.closing.specs.Close.{closeLines}
-use Rattle.book.specs.Close.{nextDay}
+use Rattle.book.specs.Close.{nextDay, forceOf}
 use Rattle.book.proofs.Outcomes.{Ends}
 use Rattle.book.specs.Month.{monthAnswer}
 use Rattle.journal.specs.Calls.{Call}
@@ -47,17 +50,20 @@ pub record Leaves (b after : Book) (f : Facts) : Type 0 where
   pub has-closed : after .day .«has_closed» ≡ pick (isEnd (f .ends)) true (b .day .«has_closed»)
   pub last : after .last ≡ pick (isEnd (f .ends)) (keptFrom (reported (f .ends))) (b .last)
   pub offers : (xs : List Offer) → listedOffers (b .ledger .offers) ≡ ranked xs → listedOffers (after .ledger .offers) ≡ ranked (pick (isEnd (f .ends)) [] (f .offers ++ xs))
+  pub rates : (xs : List RateRow) → listedRates (b .rates) ≡ enteredRows xs → listedRates (after .rates) ≡ enteredRows (f .rates ++ xs)
   pub legs : entered (after .legs) ≡ legsAfter (f .legs) (entered (b .legs))
   pub amounts : NewAmounts b after (f .legs)
   pub proper : Proper (f .legs) (entered (b .legs))
 
 -- what is known of a call that ended the day: at which end of the book's day it was, that the lines are those of the
--- rules, that there is a next day, and that no leg was touched
+-- rules, which rate was in force, that there is a next day, and that no leg was touched
 pub record Closes (b : Book) (f : Facts) (d : Ended) : Type 0 where
   pub end : DayEnd
   pub ends : Ends b end
   pub price : d .price ≡ end .price
   pub lines : d .lines ≡ closeLines end (b .ledger)
+  pub rate : end .rate ≡ rateOf (forceOf b)
+  pub is-set : isUnset (forceOf b) ≡ false
   pub next : Day
   pub on : nextDay b ≡ At next
   pub legs : f .legs ≡ neither
@@ -107,13 +113,14 @@ does-plain b after c xs words m l h = record {
 
 -- ---- a call that says nothing
 pub does-nothing : (b after : Book) (words : List ℕ) → Valid after → after .setup ≡ b .setup → after .day ≡ b .day →
-    after .legs ≡ b .legs → after .ledger ≡ b .ledger → after .last ≡ b .last → Does b after noFacts words
-does-nothing b after words v setup day legs ledger last =
+    after .legs ≡ b .legs → after .ledger ≡ b .ledger → after .last ≡ b .last → after .rates ≡ b .rates → Does b after noFacts words
+does-nothing b after words v setup day legs ledger last rates =
     does-plain b after neither [] words (moves-nothing b after neither [] v setup (rw day) (rw ledger) (rw ledger) (rw ledger) (λ n. refl)) (record {
       close-since = rw day;
       has-closed = rw day;
       last = last;
       offers = λ xs e. rw ledger e;
+      rates = λ xs e. rw rates e;
       legs = rw legs;
       amounts = λ k below above. absurd (omega (arith, below, above, ap (λ (l : Ledger). l .count) ledger));
       proper = tt;
@@ -121,4 +128,4 @@ does-nothing b after words v setup day legs ledger last =
 
 -- a refused call does nothing
 pub refused-does : (b : Book) → Valid b → (c : Call) (n : ℕ) (rs ws : List ℕ) → (n ≡ 0 → ⊥) → Does b b (pick (eqb n 0) (factsOf c rs ws) noFacts) ws
-refused-does b v c n rs ws z = rw (ne-eqb n 0 z) (does-nothing b b ws v refl refl refl refl refl)
+refused-does b v c n rs ws z = rw (ne-eqb n 0 z) (does-nothing b b ws v refl refl refl refl refl refl)

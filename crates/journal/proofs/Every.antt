@@ -16,6 +16,8 @@ use Rattle.basics.proofs.Cases.{pick-case, or-false}
 use Rattle.basics.proofs.Refusals.{passed, by-number, by-number₂}
 use Rattle.calendar.specs.declared.Day.{Day}
 use Rattle.offers.proofs.Holding.{listed-none, ranked-with}
+use Rattle.rates.specs.Rows.{rowOf, withRow, enteredRows}
+use Rattle.rates.proofs.Keeping.{entered-listed}
 use Rattle.instructions.specs.declared.Leg.{Leg}
 use Rattle.instructions.specs.declared.Legs.{Legs}
 use Rattle.instructions.specs.declared.LegState.{LegState}
@@ -51,9 +53,9 @@ use Rattle.book.proofs.Kept.{Good, good, matched-room}
 use Rattle.book.proofs.Refused.{entered-zero}
 use Rattle.journal.specs.Calls.{Call}
 use Rattle.journal.specs.Played.{ofDone, ofEntered, ofCancelled, ofDelivered, ofClosed, ofPaid, outcomeOf}
-use Rattle.journal.specs.Facts.{enters, withdraws, neither, Instructed, instructedBy, instructs, onlyLegs, onlyMoves}
+use Rattle.journal.specs.Facts.{enters, withdraws, neither, Instructed, instructedBy, instructs, onlyLegs, onlyMoves, onlyRates}
 use Rattle.journal.specs.History.{legIntoState}
-use Rattle.journal.proofs.Rows.{instructedFrom, instructedAt, RowNew, Rows, rows-more}
+use Rattle.journal.proofs.Rows.{instructedFrom, instructedAt, RowNew, Rows, rows-same, rows-more}
 use Rattle.journal.proofs.Steps.{moves-within, plain, plain-untold, rows-moved, rows-wished}
 use Rattle.journal.proofs.Turns.{moves-close, moves-month}
 use Rattle.journal.proofs.Does.{Does, DoesAs, no-some, moves-nothing, does-plain, does-nothing, refused-does}
@@ -83,6 +85,7 @@ module _ (b : Book) (v : Valid b) where
         has-closed = refl;
         last = refl;
         offers = λ xs q. q;
+        rates = λ xs p. p;
         legs = entered-into leg Withdrawn h;
         amounts = λ k below above. absurd (omega arith);
         proper = omega (arith, entered-length);
@@ -150,6 +153,7 @@ module _ (b : Book) (v : Valid b) where
         has-closed = refl;
         last = refl;
         offers = λ xs p. p;
+        rates = λ xs p. p;
         legs = rw e (entered-with (b .legs) (v .legs) new (g .room));
         amounts = λ k below above. absurd (omega arith);
         proper = (sym entered-length, fresh, rw e refl);
@@ -168,6 +172,7 @@ module _ (b : Book) (v : Valid b) where
         has-closed = refl;
         last = refl;
         offers = λ xs p. p;
+        rates = λ xs p. p;
         legs = rw (e, number)
             (entered-with (withState k (Matched n) (b .legs)) w' (inState (Matched n) new) (g .room)
             ∙ ap (λ (x : List Leg). x ++ inState (Matched n) new ∷ []) (entered-into k (Matched n) (f .0)));
@@ -190,11 +195,11 @@ module _ (b : Book) (v : Valid b) where
 
   -- ---- Deliver and Cancel
   -- a call that changes some rows: what of them moves to each part, and whose wish it is
-  rows-does : (after : Book) (f : Part → ℕ → ℕ) (w : ℕ → ℕ → Bool) → Valid after → after .setup ≡ b .setup → after .day ≡ b .day → after .legs ≡ b .legs → after .last ≡ b .last →
+  rows-does : (after : Book) (f : Part → ℕ → ℕ) (w : ℕ → ℕ → Bool) → Valid after → after .setup ≡ b .setup → after .day ≡ b .day → after .legs ≡ b .legs → after .last ≡ b .last → after .rates ≡ b .rates →
       after .ledger .count ≡ b .ledger .count → after .ledger .offers ≡ b .ledger .offers → after .ledger .accounts ≡ b .ledger .accounts → Rows b after (onlyMoves f w) → Does b after (onlyMoves f w) []
-  rows-does after f w v' setup day legs last count offers accounts rows = record {
+  rows-does after f w v' setup day legs last rates count offers accounts rows = record {
     moves = moves-within b after (onlyMoves f w) refl refl v' setup (rw day) accounts rows;
-    leaves = record { close-since = rw day; has-closed = rw day; last = last; offers = λ xs p. rw offers p; legs = rw legs; amounts = λ k below above. absurd (omega (arith, count)); proper = tt };
+    leaves = record { close-since = rw day; has-closed = rw day; last = last; offers = λ xs p. rw offers p; rates = λ xs p. rw rates p; legs = rw legs; amounts = λ k below above. absurd (omega (arith, count)); proper = tt };
     due = λ k i e. absurd (no-some e);
     closes = λ d e. absurd (no-some e);
     pays = λ cs e. absurd (no-some e);
@@ -205,14 +210,14 @@ module _ (b : Book) (v : Valid b) where
   deliver-does n q =
       laws.Outcomes.deliver-case b (λ (x : Delivered). Valid (x .book) → DoesAs b (Call.deliver n q) (ofDelivered x)) n q
       (λ i z w. refused-does b v (Call.deliver n q) i (0 ∷ []) [] z)
-      (λ h e w. rows-does _ _ _ w refl refl refl refl refl refl refl (rows-moved b v part.Delivered n q h))
+      (λ h e w. rows-does _ _ _ w refl refl refl refl refl refl refl refl (rows-moved b v part.Delivered n q h))
 
   cancel-does : (n member : ℕ) → Valid (outcomeOf b (Call.cancel n member) .book) → DoesAs b (Call.cancel n member) (outcomeOf b (Call.cancel n member))
   unfolding cancelRefusalsOf
   cancel-does n member =
       laws.Outcomes.cancel-case b (λ (x : Cancelled). Valid (x .book) → DoesAs b (Call.cancel n member) (ofCancelled x)) n member
       (λ i z w. refused-does b v (Call.cancel n member) i (0 ∷ []) [] z)
-      (λ h e w. rows-does _ _ _ w refl refl refl refl refl refl refl (rows-wished b v n member h (not-false _ (or-false (passed 14 _ _ e refl .0) .0))))
+      (λ h e w. rows-does _ _ _ w refl refl refl refl refl refl refl refl (rows-wished b v n member h (not-false _ (or-false (passed 14 _ _ e refl .0) .0))))
 
   -- ---- Offer
   offer-does : (n supplier q price : ℕ) → Valid (outcomeOf b (Call.offer n supplier q price) .book) → DoesAs b (Call.offer n supplier q price) (outcomeOf b (Call.offer n supplier q price))
@@ -225,24 +230,51 @@ module _ (b : Book) (v : Valid b) where
         has-closed = refl;
         last = refl;
         offers = λ xs p. ranked-with (b .ledger .offers) _ (offers-few _ _ _ _ _ _ f) (v .ledger .offers .size) xs p;
+        rates = λ xs p. p;
         legs = refl;
         amounts = λ k below above. absurd (omega arith);
         proper = tt;
       }) (λ k i e. absurd (no-some e)))
 
-  -- ---- Close
-  close-does : (price rate : ℕ) (ws : List ℕ) → DoesAs b (Call.close price rate ws) (outcomeOf b (Call.close price rate ws))
-  close-does price rate ws =
-      laws.Outcomes.close-case b v (λ (x : Closed) (us : List ℕ). DoesAs b (Call.close price rate ws) (ofClosed x us)) price rate ws
-      (λ i z. refused-does b v (Call.close price rate ws) i (0 ∷ []) ws z)
-      (λ d e s next q long.
-      let ls = closeLines d (b .ledger) in
-      rw (lines-back ls ws, ← s) (record {
-        moves = moves-close b v d e next q;
-        leaves = record { close-since = refl; has-closed = refl; last = refl; offers = λ xs p. listed-none; legs = refl; amounts = λ k below above. absurd (omega arith); proper = tt };
+  -- ---- Rate
+  rate-does : (start : Day) (rate : ℕ) → Valid (outcomeOf b (Call.rate start rate) .book) → DoesAs b (Call.rate start rate) (outcomeOf b (Call.rate start rate))
+  unfolding enteredRows total
+  rate-does start rate =
+      laws.Outcomes.rate-case b (λ (x : Done). Valid (x .book) → DoesAs b (Call.rate start rate) (ofDone x)) start rate
+      (λ i z w. refused-does b v (Call.rate start rate) i [] [] z)
+      (λ g w. record {
+        moves = moves-within b _ (onlyRates _) refl refl w refl refl refl
+            (rows-same b _ (onlyRates _) refl refl refl (λ n. record { instructed = refl; moves = λ k. refl; wishes = λ m. refl }));
+        leaves = record {
+          close-since = refl;
+          has-closed = refl;
+          last = refl;
+          offers = λ xs p. p;
+          rates = λ xs p. entered-listed (b .day .today) (b .rates) (v .rates) (rowOf start rate) (g .room) ∙ ap (withRow (rowOf start rate)) p;
+          legs = refl;
+          amounts = λ k below above. absurd (omega arith);
+          proper = tt;
+        };
         due = λ n i e. absurd (no-some e);
-        closes = λ x p. let same : record { price = d .price; lines = ls } ≡ x = cc in
-            rw (← same) (record { end = d; ends = e; price = refl; lines = refl; next = next; on = q; legs = refl });
+        closes = λ d e. absurd (no-some e);
+        pays = λ cs e. absurd (no-some e);
+        fits = omega arith;
+      })
+
+  -- ---- Close
+  close-does : (price : ℕ) (ws : List ℕ) → DoesAs b (Call.close price ws) (outcomeOf b (Call.close price ws))
+  close-does price ws =
+      laws.Outcomes.close-case b v (λ (x : Closed) (us : List ℕ). DoesAs b (Call.close price ws) (ofClosed x us)) price ws
+      (λ i z. refused-does b v (Call.close price ws) i (0 ∷ []) ws z)
+      (λ next c.
+      let d = rules.Close.dayEnd b price in
+      let ls = closeLines d (b .ledger) in
+      rw (lines-back ls ws) (record {
+        moves = moves-close b v d (c .ends) next (c .on);
+        leaves = record { close-since = refl; has-closed = refl; last = refl; offers = λ xs p. listed-none; rates = λ xs p. p; legs = refl; amounts = λ k below above. absurd (omega arith); proper = tt };
+        due = λ n i e. absurd (no-some e);
+        closes = λ x p. let same : record { price = price; lines = ls } ≡ x = cc in
+            rw (← same) (record { end = d; ends = c .ends; price = refl; lines = refl; rate = refl; is-set = c .rate; next = next; on = c .on; legs = refl });
         pays = λ cs e. absurd (no-some e);
         fits = written-fits ls ws;
       }))
@@ -252,7 +284,7 @@ module _ (b : Book) (v : Valid b) where
   again-does ws =
       laws.Outcomes.again-case b (λ (x : Closed) (us : List ℕ). DoesAs b (Call.again ws) (ofClosed x us)) ws
       (λ i z. refused-does b v (Call.again ws) i (0 ∷ []) ws z)
-      (λ e. does-nothing b b _ v refl refl refl refl refl)
+      (λ e. does-nothing b b _ v refl refl refl refl refl refl)
 
   -- ---- Month
   month-does : (cs ps : List ℕ) → DoesAs b (Call.month cs ps) (outcomeOf b (Call.month cs ps))
@@ -263,7 +295,7 @@ module _ (b : Book) (v : Valid b) where
       (λ z. refused-does b v (Call.month cs ps) (monthAnswer b cs (length ps)) [] ps z)
       (λ e. record {
         moves = moves-month b v cs;
-        leaves = record { close-since = refl; has-closed = refl; last = refl; offers = λ xs p. p; legs = refl; amounts = λ k below above. absurd (omega arith); proper = tt };
+        leaves = record { close-since = refl; has-closed = refl; last = refl; offers = λ xs p. p; rates = λ xs p. p; legs = refl; amounts = λ k below above. absurd (omega arith); proper = tt };
         due = λ n i e. absurd (no-some e);
         closes = λ d e. absurd (no-some e);
         pays = λ ds s. let same : cs ≡ ds = cc in rw (← same) (record { places = length ps; accepted = e; payouts = refl });
@@ -276,6 +308,7 @@ module _ (b : Book) (v : Valid b) where
   call-does (Call.cancel n member) = cancel-does n member (laws.Kept.cancel-valid b v n member)
   call-does (Call.deliver n q) = deliver-does n q (laws.Kept.deliver-valid b v n q)
   call-does (Call.offer n supplier q price) = offer-does n supplier q price (laws.Kept.offer-valid b v n supplier q price)
-  call-does (Call.close price rate ws) = close-does price rate ws
+  call-does (Call.rate start rate) = rate-does start rate (laws.Kept.rate-valid b v start rate)
+  call-does (Call.close price ws) = close-does price ws
   call-does (Call.again ws) = again-does ws
   call-does (Call.month cs ps) = month-does cs ps

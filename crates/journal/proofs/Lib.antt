@@ -4,8 +4,8 @@
 -- Rows and ClosedRows (what becomes of the obligations), Moves, Steps and Turns (what moves from book to book), Does and
 -- Every (all that each call does), Months (what a Month pays), Model (book and events agree after every list of calls),
 -- Recalling and its parts (what the book stores beside its obligations is what the events tell), CapPrices (the price for
--- the cap is there), BuyIns (the offers are taken in their order), Showing (what Status, Account and Look show) and
--- Reprints (what Again shows).
+-- the cap is there), BuyIns (the offers are taken in their order), Fining (the penalties are those of the rate in force,
+-- and 26 does not come again after a Close), Showing (what Status, Account and Look show) and Reprints (what Again shows).
 pub mod Demand3
 pub mod Theorem
 pub mod Recalled
@@ -24,5 +24,6 @@ pub mod Does
 pub mod Recalling
 pub mod CapPrices
 pub mod BuyIns
+pub mod Fining
 pub mod Showing
 pub mod Reprints

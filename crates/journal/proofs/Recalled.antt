@@ -1,4 +1,5 @@
--- What every book remembers of its journal: `remembered` at the end.
+-- What every book remembers of its journal: `remembered`. Since it remembers its rates, refusal 26 of Close does not come
+-- again after an accepted Close: `no-26-again` at the end.
 use Prim.Native.Nat.{ℕ, _≤_, _<_}
 use native.Mathlib.Omega.{arith}
 use mathlib.Core.Path.{_≡_, refl, sym, ap, _∙_}
@@ -11,6 +12,7 @@ use borrow.Author.Tests.{lt-ltb, le-ltb, eq-eqb, ne-eqb}
 use Rattle.offers.specs.Rank.{ranked, InOrder}
 use Rattle.offers.specs.Held.{listedOffers}
 use Rattle.offers.proofs.Ranking.{ranked-in-order}
+use Rattle.rates.specs.Rows.{enteredRows, listedRates}
 use Rattle.instructions.specs.declared.Leg.{Leg}
 use Rattle.instructions.specs.declared.LegState.the-variants.{Waiting}
 use Rattle.instructions.specs.Legs.{isWaiting, noLeg, inState, legAt, entered}
@@ -19,9 +21,10 @@ use Rattle.ledger.specs.Parts.{partOf}
 use Rattle.ledger.specs.Ledger.{obligationAt}
 use Rattle.reprint.specs.Kept.{keptFrom}
 use Rattle.book.specs.Book.{ageOf}
+use Rattle.book.specs.Close.{forceOf, close}
 use Rattle.journal.specs.Calls.{Run}
 use Rattle.journal.specs.Sums.{setupIn, todayIn, instructedIn, partIn, wishedIn, gracePriceIn}
-use Rattle.journal.specs.History.{closeSinceIn, latestClose, wasClose, latestLines, offersIn, legsIn, amountIn, legIn, waitingIn}
+use Rattle.journal.specs.History.{closeSinceIn, latestClose, wasClose, latestLines, offersIn, ratesIn, forceIn, legsIn, amountIn, legIn, waitingIn}
 use Rattle.journal.specs.Promise.{EveryCapPrice}
 use Rattle.journal.proofs.Moves.{Agrees, parts-are}
 use Rattle.journal.proofs.Rows.{instructedAt}
@@ -31,6 +34,7 @@ use Rattle.journal.proofs.Demand3.{Ran}
 use Rattle.journal.proofs.Theorem.{known}
 use Rattle.journal.proofs.Every.{entered-length, entered-at}
 use Rattle.journal.proofs.Recalling.{RunRecalls, known-recalls}
+use Rattle.journal.proofs.Fining.{force-is, never-again-unset}
 
 -- Each thing that a book stores is what its Open and its events tell. The accounts and what is outstanding are those of the
 -- promise.
@@ -59,6 +63,9 @@ pub record Remembered (s : Run) : Type 0 where
   -- B5 and C7, Buy-in and Close: the offers of today, in the order in which they are taken
   pub offers : listedOffers (s .book .ledger .offers) ≡ ranked (offersIn (s .past))
   pub in-order : InOrder (offersIn (s .past)) (listedOffers (s .book .ledger .offers))
+  -- F3 and F4, Rates: the rows of rates, and J18, Whole journals: the row in force
+  pub rates : listedRates (s .book .rates) ≡ enteredRows (ratesIn (s .past))
+  pub force : forceOf (s .book) ≡ forceIn (s .opening) (s .past)
   -- K1 and K4, Cancel: the wishes of the seller and of the buyer
   pub seller-wish : (n : ℕ) → n < s .book .ledger .count →
       obligationAt (s .book .ledger) n .wishes .seller ≡ wishedIn n (obligationAt (s .book .ledger) n .deal .seller) (s .past)
@@ -96,6 +103,8 @@ told s g k p =
           let instructed : instructedIn n (s .past) ≡ some (instructedAt (obligationAt l n)) = rw (← g .instructed n, there n h) in
           omega (arith, price, p n (instructedAt (obligationAt l n)) instructed (rw (g .setup, g .today) at old) .price);
       offers = k .offers;
+      rates = k .rates;
+      force = force-is (s .opening) (s .book) (s .past) g k;
       in-order = rw (k .offers) (ranked-in-order (offersIn (s .past)));
       seller-wish = λ n h. rw (there n h, eq-eqb (obligationAt l n .deal .seller) (obligationAt l n .deal .seller) refl) at (g .wishes n (obligationAt l n .deal .seller));
       buyer-wish = λ n h.
@@ -116,3 +125,7 @@ known-remembered s k = told s (k .agrees) (known-recalls s k) (known-capped s k)
 
 pub remembered : (s : Run) → Ran s → Remembered s
 remembered s ran = known-remembered s (known ran)
+
+-- F8, Rates: once a Close of a run was accepted, no Close after it is refused by 26
+pub no-26-again : (s : Run) → Ran s → wasClose (latestClose (s .past)) ≡ true → (price words : ℕ) → close (s .book) price words .answer ≡ 26 → ⊥
+no-26-again s ran = never-again-unset s (known ran)

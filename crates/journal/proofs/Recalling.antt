@@ -1,5 +1,5 @@
 -- Whatever calls are played from an Open, what the book stores beside its obligations is what the events tell:
--- `played-recalls` and `known-recalls` at the end.
+-- `played-recalls` and `known-recalls`. So what holds of each call holds of every event: `each-known` at the end.
 use Prim.Native.Nat.{ℕ, _+_, _*_, _≤_}
 use native.Mathlib.Omega.{arith}
 use mathlib.Core.Path.{_≡_, refl, sym, ap, ap₂, subst⁻¹, _∙_}
@@ -18,6 +18,7 @@ use Rattle.calendar.specs.Closed.{day, closedDays}
 use Rattle.offers.specs.Rank.{ranked}
 use Rattle.offers.specs.Held.{listedOffers}
 use Rattle.offers.proofs.Holding.{listed-none}
+use Rattle.rates.specs.Rows.{enteredRows, listedRates}
 use Rattle.instructions.specs.declared.Leg.{Leg}
 use Rattle.instructions.specs.Legs.{entered}
 use Rattle.instructions.specs.Match.{firstFit}
@@ -30,20 +31,23 @@ use Rattle.journal.specs.Calls.{Opening, Call, Event, Run}
 use Rattle.journal.specs.Played.{outcomeOf, eventOf, played, callsOf}
 use Rattle.journal.specs.Facts.{LegChange, enters, withdraws, neither, instructedBy, instructs, isEnd, reported, facts}
 use Rattle.journal.specs.Sums.{orElse, isMonth}
-use Rattle.journal.specs.History.{closeSinceIn, latestClose, wasClose, latestLines, offersIn, legsAfter, legsIn, enteredAs, legIn, waitsAfter, waitingIn, amountWith, amountBy, amountIn}
+use Rattle.journal.specs.History.{closeSinceIn, latestClose, wasClose, latestLines, offersIn, ratesIn, legsAfter, legsIn, enteredAs, legIn, waitsAfter, waitingIn, amountWith, amountBy, amountIn}
+use Rattle.journal.specs.Promise.{EachEvent}
 use Rattle.journal.proofs.Rows.{held, held-step, Rows}
 use Rattle.journal.proofs.Every.{call-does}
 use Rattle.journal.proofs.Model.{Known, played-known}
 use Rattle.journal.proofs.RecalledLegs.{legOf, waitsOf, Proper, change-leg, change-waits}
-use Rattle.journal.proofs.Does.{Leaves, no-some}
+use Rattle.journal.proofs.Moves.{Agrees}
+use Rattle.journal.proofs.Does.{Leaves, Does, no-some}
 
--- the book stores what the events tell of Closes, offers and legs
+-- the book stores what the events tell of Closes, offers, rates and legs
 pub record Recalls (b : Book) (es : List Event) : Type 0 where
   pub close-since : b .day .«close_since» ≡ closeSinceIn es
   pub has-closed : b .day .«has_closed» ≡ wasClose (latestClose es)
   pub last : b .last ≡ keptFrom (latestLines (latestClose es))
   pub fits : (x : Event) → latestClose es ≡ some x → wordsInLine * length (reported (facts x .ends)) ≤ length (x .words)
   pub offers : listedOffers (b .ledger .offers) ≡ ranked (offersIn es)
+  pub rates : listedRates (b .rates) ≡ enteredRows (ratesIn es)
   pub legs : entered (b .legs) ≡ legsIn es
   pub leg : (n : ℕ) → legOf n (legsIn es) ≡ legIn n es
   pub waits : (n : ℕ) → waitsOf n (legsIn es) ≡ waitingIn n es
@@ -51,7 +55,7 @@ pub record Recalls (b : Book) (es : List Event) : Type 0 where
 
 -- ---- the start
 fresh-recalls : (first : Day) (closed : ClosedDays) (terms : ℕ) → Recalls (freshBook first closed terms) []
-unfolding closeSinceIn latestClose offersIn legsIn legIn waitingIn amountIn
+unfolding closeSinceIn latestClose offersIn ratesIn enteredRows legsIn legIn waitingIn amountIn
 fresh-recalls first closed terms =
     let nobody : (n : ℕ) → ltb n 0 ≡ false = λ n. le-ltb n 0 (omega arith) in
     record {
@@ -60,6 +64,7 @@ fresh-recalls first closed terms =
       last = refl;
       fits = λ x q. absurd (no-some q);
       offers = listed-none;
+      rates = refl;
       legs = refl;
       leg = λ n. rw (nobody n);
       waits = λ n. refl;
@@ -107,7 +112,7 @@ module _ (b after : Book) (es : List Event) (e : Event) (r : Rows b after (facts
       (λ h. rw (no-amount-by n (facts e .legs) (entered (b .legs)) (r .absent n h .instructed)))
 
   recalls-step : Recalls after (e ∷ es)
-  unfolding closeSinceIn latestClose offersIn legsIn legIn waitingIn amountIn
+  unfolding closeSinceIn latestClose offersIn ratesIn legsIn legIn waitingIn amountIn
   recalls-step =
       let proper : Proper (facts e .legs) (legsIn es) = rw (k .legs) at (l .proper) in
       record {
@@ -116,6 +121,7 @@ module _ (b after : Book) (es : List Event) (e : Event) (r : Rows b after (facts
         last = l .last ∙ ap (pick (isEnd (facts e .ends)) (keptFrom (reported (facts e .ends)))) (k .last) ∙ latest-lines (isEnd (facts e .ends));
         fits = latest-fits (isEnd (facts e .ends));
         offers = l .offers (offersIn es) (k .offers);
+        rates = l .rates (ratesIn es) (k .rates);
         legs = l .legs ∙ ap (legsAfter (facts e .legs)) (k .legs);
         leg = λ n. change-leg (facts e .legs) (legsIn es) proper n ∙ ap (orElse (enteredAs n (facts e .legs))) (k .leg n);
         waits = λ n. change-waits (facts e .legs) (legsIn es) proper n ∙ ap (waitsAfter n (facts e .legs) (legsIn es)) (k .waits n);
@@ -136,3 +142,20 @@ played-recalls o (c ∷ earlier) =
 -- of every run that is known
 pub known-recalls : (s : Run) → Known s → RunRecalls s
 known-recalls s k = subst⁻¹ RunRecalls (k .answered) (played-recalls (s .opening) (callsOf (s .past)))
+
+-- ---- every event
+-- What holds of each call that is played, with the events before it, holds of every event of a run.
+module _ (P : Opening → Event → List Event → Type 0)
+    (one : (o : Opening) (b after : Book) (es : List Event) (e : Event) → Agrees o b es → Recalls b es → Does b after (facts e) (e .words) → P o e es) where
+  abbrev Each : Run → Type 0
+  Each s = EachEvent (P (s .opening)) (s .past)
+
+  each-played : (o : Opening) (cs : List Call) → Each (played o cs)
+  each-played o [] = tt
+  each-played o (c ∷ earlier) =
+      let s = played o earlier in
+      let g = played-known o earlier .agrees in
+      (one (s .opening) (s .book) (outcomeOf (s .book) c .book) (s .past) (eventOf (s .book) c) g (played-recalls o earlier) (call-does (s .book) (g .valid) c), each-played o earlier)
+
+  pub each-known : (s : Run) → Known s → Each s
+  each-known s k = subst⁻¹ Each (k .answered) (each-played (s .opening) (callsOf (s .past)))

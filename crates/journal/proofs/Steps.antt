@@ -54,7 +54,7 @@ moves-within b after f e c v setup today accounts rows = record {
 -- ---- other legs and offers
 -- the facts of a call that changes legs or offers, or neither
 abbrev pub plain : LegChange → List Offer → Facts
-plain c xs = record { legs = c; moves = λ k n. 0; wishes = λ n m. false; offers = xs; ends = none; collects = none }
+plain c xs = record { legs = c; moves = λ k n. 0; wishes = λ n m. false; offers = xs; rates = []; ends = none; collects = none }
 
 pub plain-untold : (c : LegChange) (xs : List Offer) (n : ℕ) → instructs n c ≡ none → Untold (plain c xs) n
 unfolding total

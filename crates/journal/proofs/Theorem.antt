@@ -17,6 +17,7 @@ use Rattle.journal.proofs.Model.{Known, begun-known, step-known, played
 use Rattle.journal.proofs.Months.{debts-agree}
 use Rattle.journal.proofs.CapPrices.{known-capped}
 use Rattle.journal.proofs.BuyIns.{known-bought}
+use Rattle.journal.proofs.Fining.{known-penalised}
 use Rattle.journal.proofs.Showing.{status-shows, account-shows, all-shown, look-shows, status-learnt, account-learnt, look-learnt, status-returns, account-returns, look-returns}
 use Rattle.journal.proofs.Recalling.{known-recalls}
 use Rattle.journal.proofs.Reprints.{again-shows, again-learnt, again-returns}
@@ -29,7 +30,8 @@ called-is (Called.withdrew leg member r x h) = ap ofDone (h .0)
 called-is (Called.cancelled n member r x h) = ap ofCancelled (h .0)
 called-is (Called.delivered n q r x h) = ap ofDelivered (h .0)
 called-is (Called.offered n supplier q price r x h) = ap ofDone (h .0)
-called-is (Called.closed κs price rate lines r x h) = ap₂ ofClosed (h .0) (h .1 .0)
+called-is (Called.rated start rate r x h) = ap ofDone (h .0)
+called-is (Called.closed κs price lines r x h) = ap₂ ofClosed (h .0) (h .1 .0)
 called-is (Called.repeated κs lines r x h) = ap₂ ofClosed (h .0) (h .1 .0)
 called-is (Called.settled κs collected payouts r x h) =
     λ i. record { answer = h .0 i .answer; results = []; words = h .1 .0 i; kept = h .1 .1 .1 i; book = h .0 i .book }
@@ -61,7 +63,8 @@ may b v (Call.withdraw leg member) = v
 may b v (Call.cancel n member) = v
 may b v (Call.deliver n q) = v
 may b v (Call.offer n supplier q price) = v
-may b v (Call.close price rate lines) = λ κs ls. v
+may b v (Call.rate start rate) = v
+may b v (Call.close price lines) = λ κs ls. v
 may b v (Call.again lines) = λ κs ls. v
 may b v (Call.month collected payouts) = λ κs cs ps. v
 
@@ -84,6 +87,7 @@ promised s ran =
       months = k .months;
       typed-or-empty = subst⁻¹ (SameAsEmpty (s .book)) (debts-agree (s .opening) (s .book) (s .past) g) (same-as-empty (s .book) v);
       buy-ins = known-bought s k;
+      penalties = known-penalised s k;
       cap-prices = known-capped s k;
       may = may (s .book) v;
       may-status = λ n. v;
@@ -105,9 +109,10 @@ calls b v (Call.cancel n member) = Called.cancelled n member _ (b, (n, (member, 
 calls b v (Call.deliver n q) = Called.delivered n q _ (b, (n, (q, tt))) (refl, laws.Kept.deliver-valid b v n q)
 calls b v (Call.offer n supplier q price) =
     Called.offered n supplier q price _ (b, (n, (supplier, (q, (price, tt))))) (refl, laws.Kept.offer-valid b v n supplier q price)
-calls b v (Call.close price rate lines) =
-    Called.closed ([], tt) price rate (lent lines) _ (b, (price, (rate, (lent (rules.Close.closeWords b price rate lines), tt))))
-    (refl, (refl, laws.Ended.close-valid b v price rate lines))
+calls b v (Call.rate start rate) = Called.rated start rate _ (b, (start, (rate, tt))) (refl, laws.Kept.rate-valid b v start rate)
+calls b v (Call.close price lines) =
+    Called.closed ([], tt) price (lent lines) _ (b, (price, (lent (rules.Close.closeWords b price lines), tt)))
+    (refl, (refl, laws.Ended.close-valid b v price lines))
 calls b v (Call.again lines) =
     Called.repeated ([], tt) (lent lines) _ (b, (lent (rules.Again.againWords b lines), tt)) (refl, (refl, laws.Ended.again-valid b v lines))
 calls b v (Call.month collected payouts) =
@@ -133,6 +138,7 @@ demand-3 = record {
   cancel-code = record { met = code.cancel.Met.met; gives = λ w γ k same. code.cancel.Reads.known w γ k code.cancel.Symbol.routine same (code.cancel.Met.met (w .𝓤) (w .H) (w .𝓜) (w .𝓖) (w .𝓡)) };
   deliver-code = record { met = code.deliver.Met.met; gives = λ w γ k same. code.deliver.Reads.known w γ k code.deliver.Symbol.routine same (code.deliver.Met.met (w .𝓤) (w .H) (w .𝓜) (w .𝓖) (w .𝓡)) };
   offer-code = record { met = code.offer.Met.met; gives = λ w γ k same. code.offer.Reads.known w γ k code.offer.Symbol.routine same (code.offer.Met.met (w .𝓤) (w .H) (w .𝓜) (w .𝓖) (w .𝓡)) };
+  rate-code = record { met = code.rate.Met.met; gives = λ w γ k same. code.rate.Reads.known w γ k code.rate.Symbol.routine same (code.rate.Met.met (w .𝓤) (w .H) (w .𝓜) (w .𝓖) (w .𝓡)) };
   close-code = record { met = code.close.Met.met; gives = λ w γ k same. code.close.Reads.known w γ k code.close.Symbol.routine same (code.close.Met.met (w .𝓤) (w .H) (w .𝓜) (w .𝓖) (w .𝓡)) };
   again-code = record { met = code.again.Met.met; gives = λ w γ k same. code.again.Reads.known w γ k code.again.Symbol.routine same (code.again.Met.met (w .𝓤) (w .H) (w .𝓜) (w .𝓖) (w .𝓡)) };
   month-code = record { met = code.month.Met.met; gives = λ w γ k same. code.month.Reads.known w γ k code.month.Symbol.routine same (code.month.Met.met (w .𝓤) (w .H) (w .𝓜) (w .𝓖) (w .𝓡)) };

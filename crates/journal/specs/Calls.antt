@@ -17,7 +17,8 @@ pub data Call : Type 0 where
   cancel : (obligation member : ℕ) → Call
   deliver : (obligation quantity : ℕ) → Call
   offer : (obligation supplier quantity price : ℕ) → Call
-  close : (price rate : ℕ) (lines : List ℕ) → Call
+  rate : (start : Day) (rate : ℕ) → Call
+  close : (price : ℕ) (lines : List ℕ) → Call
   again : (lines : List ℕ) → Call
   month : (collected payouts : List ℕ) → Call
 

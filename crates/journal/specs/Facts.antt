@@ -9,6 +9,8 @@ use Rattle.basics.specs.Choice.{pick}
 use Rattle.basics.specs.Lists.{total}
 use Rattle.calendar.specs.declared.Day.{Day}
 use Rattle.offers.specs.declared.Offer.{Offer}
+use Rattle.rates.specs.declared.RateRow.{RateRow}
+use Rattle.rates.specs.Rows.{rowOf}
 use Rattle.ledger.specs.declared.Part.{Part}
 use Rattle.ledger.specs.declared.Part.the-variants.{Delivered, BoughtIn, Compensated, Cancelled}
 use Rattle.ledger.specs.Parts.{samePart}
@@ -82,24 +84,25 @@ priceOf (some d) = d .price
 
 -- ---- the facts of an event
 -- What an event says: what it does to the legs; which quantity of an obligation it moves to a part, apart from what its
--- lines say; whether it is member m's wish to cancel obligation n; the offers that it enters; how it ended the day if
--- it is a Close; and the list of collected amounts that it was given if it is a Month. Every sum and every history
--- takes its own from them.
+-- lines say; whether it is member m's wish to cancel obligation n; the offers and the rates that it enters; how it ended
+-- the day if it is a Close; and the list of collected amounts that it was given if it is a Month. Every sum and every
+-- history takes its own from them.
 pub record Facts : Type 0 where
   pub legs : LegChange
   pub moves : Part → ℕ → ℕ
   pub wishes : ℕ → ℕ → Bool
   pub offers : List Offer
+  pub rates : List RateRow
   pub ends : Option Ended
   pub collects : Option (List ℕ)
 
 -- the facts of an event that says nothing
 abbrev pub noFacts : Facts
-noFacts = record { legs = neither; moves = λ k n. 0; wishes = λ n m. false; offers = []; ends = none; collects = none }
+noFacts = record { legs = neither; moves = λ k n. 0; wishes = λ n m. false; offers = []; rates = []; ends = none; collects = none }
 
 -- E2, Enter; T1, Withdraw: the facts of a call that only changes the legs
 abbrev pub onlyLegs : LegChange → Facts
-onlyLegs c = record { legs = c; moves = λ k n. 0; wishes = λ n m. false; offers = []; ends = none; collects = none }
+onlyLegs c = record { legs = c; moves = λ k n. 0; wishes = λ n m. false; offers = []; rates = []; ends = none; collects = none }
 
 -- J6 and J9, Whole journals: a quantity of one obligation moves to one part
 abbrev pub movesOne : Part → ℕ → ℕ → Part → ℕ → ℕ
@@ -107,19 +110,23 @@ movesOne k n q j m = pick (samePart j k && eqb m n) q 0
 
 -- the facts of a call that moves quantities and may be a wish to cancel
 abbrev pub onlyMoves : (Part → ℕ → ℕ) → (ℕ → ℕ → Bool) → Facts
-onlyMoves f w = record { legs = neither; moves = f; wishes = w; offers = []; ends = none; collects = none }
+onlyMoves f w = record { legs = neither; moves = f; wishes = w; offers = []; rates = []; ends = none; collects = none }
 
 -- B5, Buy-in: the facts of a call that only enters offers
 abbrev pub onlyOffers : List Offer → Facts
-onlyOffers xs = record { legs = neither; moves = λ k n. 0; wishes = λ n m. false; offers = xs; ends = none; collects = none }
+onlyOffers xs = record { legs = neither; moves = λ k n. 0; wishes = λ n m. false; offers = xs; rates = []; ends = none; collects = none }
+
+-- F3, Rates: the facts of a call that only enters rows of rates
+abbrev pub onlyRates : List RateRow → Facts
+onlyRates xs = record { legs = neither; moves = λ k n. 0; wishes = λ n m. false; offers = []; rates = xs; ends = none; collects = none }
 
 -- C17, Close: the facts of a Close, which ends the day
 abbrev pub onlyEnds : Ended → Facts
-onlyEnds d = record { legs = neither; moves = λ k n. 0; wishes = λ n m. false; offers = []; ends = some d; collects = none }
+onlyEnds d = record { legs = neither; moves = λ k n. 0; wishes = λ n m. false; offers = []; rates = []; ends = some d; collects = none }
 
 -- J13, Whole journals: the facts of a Month, which is given a list of collected amounts that may be empty
 abbrev pub onlyCollects : List ℕ → Facts
-onlyCollects cs = record { legs = neither; moves = λ k n. 0; wishes = λ n m. false; offers = []; ends = none; collects = some cs }
+onlyCollects cs = record { legs = neither; moves = λ k n. 0; wishes = λ n m. false; offers = []; rates = []; ends = none; collects = some cs }
 
 -- J6, J9 and J13, Whole journals; N5, Again: what an accepted call says, by its results and by its list as it ended. A
 -- Deliver delivers its quantity. A Cancel cancels what it returned. An Again changes nothing, and its lines are not
@@ -130,7 +137,8 @@ factsOf (Call.withdraw leg member) rs ws = onlyLegs (withdraws leg)
 factsOf (Call.cancel n member) rs ws = onlyMoves (movesOne Cancelled n (getD rs 0 0)) (λ k m. eqb n k && eqb member m)
 factsOf (Call.deliver n q) rs ws = onlyMoves (movesOne Delivered n q) (λ k m. false)
 factsOf (Call.offer n supplier q price) rs ws = onlyOffers (record { obligation = n; supplier = supplier; quantity = q; price = price } ∷ [])
-factsOf (Call.close price rate lines) rs ws = onlyEnds (record { price = price; lines = linesRead (getD rs 0 0) ws })
+factsOf (Call.rate start rate) rs ws = onlyRates (rowOf start rate ∷ [])
+factsOf (Call.close price lines) rs ws = onlyEnds (record { price = price; lines = linesRead (getD rs 0 0) ws })
 factsOf (Call.again lines) rs ws = noFacts
 factsOf (Call.month collected payouts) rs ws = onlyCollects collected
 

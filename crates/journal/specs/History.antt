@@ -7,6 +7,9 @@ use lib.Dec.{eqb}
 use lib.ListN.{getD, set}
 use Rattle.basics.specs.Choice.{pick}
 use Rattle.offers.specs.declared.Offer.{Offer}
+use Rattle.rates.specs.declared.RateRow.{RateRow}
+use Rattle.rates.specs.declared.InForce.{InForce}
+use Rattle.rates.specs.Force.{inForce}
 use Rattle.instructions.specs.declared.Leg.{Leg}
 use Rattle.instructions.specs.declared.LegState.{LegState}
 use Rattle.instructions.specs.declared.LegState.the-variants.{Withdrawn, Matched}
@@ -15,9 +18,9 @@ use Rattle.instructions.specs.declared.Fit.the-variants.{With, Nobody}
 use Rattle.instructions.specs.Legs.{noLeg, inState}
 use Rattle.instructions.specs.Match.{delivering, firstFit}
 use Rattle.closing.specs.declared.Line.{Line}
-use Rattle.journal.specs.Calls.{Event}
+use Rattle.journal.specs.Calls.{Opening, Event}
 use Rattle.journal.specs.Facts.{LegChange, enters, withdraws, neither, isEnd, reported, facts}
-use Rattle.journal.specs.Sums.{orElse, isMonth}
+use Rattle.journal.specs.Sums.{todayIn, orElse, isMonth}
 
 -- ---- Close
 -- R21, Refusals: whether a Close was accepted since the start or since the last accepted Month
@@ -44,6 +47,17 @@ latestLines (some e) = reported (facts e .ends)
 unfoldable pub offersIn : List Event → List Offer
 offersIn [] = []
 offersIn (e ∷ es) = pick (isEnd (facts e .ends)) [] (facts e .offers ++ offersIn es)
+
+-- ---- Rate
+-- F3, Rates: the rows of the accepted Rates, the latest first
+unfoldable pub ratesIn : List Event → List RateRow
+ratesIn [] = []
+ratesIn (e ∷ es) = facts e .rates ++ ratesIn es
+
+-- J18, Whole journals: the row in force after these events: of the accepted Rates whose starting day is not after today,
+-- the one with the greatest starting day, and the latest of those with this day
+unfoldable pub forceIn : Opening → List Event → InForce
+forceIn o es = inForce (todayIn o es) (ratesIn es)
 
 -- ---- Enter and Withdraw
 -- the legs with leg k in another state

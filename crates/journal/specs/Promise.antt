@@ -10,11 +10,14 @@ use mathlib.Core.Option.{none, some}
 use lib.Dec.{eqb}
 use lib.ListN.{length, getD, take, drop}
 use Rattle.basics.specs.Choice.{pick}
-use Rattle.basics.specs.Lists.{sum, total}
+use Rattle.basics.specs.Lists.{sum, total, Every}
+use Rattle.amounts.specs.Amounts.{penalty}
 use Rattle.offers.specs.declared.Offer.{Offer}
 use Rattle.offers.specs.declared.Given.{Given}
 use Rattle.offers.specs.Rank.{InOrder}
 use Rattle.offers.specs.BuyIn.{given}
+use Rattle.rates.specs.declared.RateRow.{RateRow}
+use Rattle.rates.specs.declared.InForce.the-variants.{Since}
 use Rattle.ledger.specs.declared.Part.{Part}
 use Rattle.ledger.specs.declared.Part.the-variants.{BoughtIn}
 use Rattle.ledger.specs.Parts.{partOf, everyPart}
@@ -22,14 +25,15 @@ use Rattle.ledger.specs.Obligations.{inBuyIn}
 use Rattle.netting.specs.Accounts.{memberCount}
 use Rattle.ledger.specs.Lines.{wordsInLine, fewestWords}
 use Rattle.closing.specs.declared.Line.{Line}
+use Rattle.closing.specs.Lines.{penaltyKind}
 use Rattle.book.specs.declared.Closed.{Closed}
 use Rattle.book.specs.declared.Shown.{Shown}
 use Rattle.book.specs.declared.Balance.{Balance}
 use Rattle.book.specs.declared.Looked.{Looked}
 use Rattle.journal.specs.Calls.{Opening, Event}
-use Rattle.journal.specs.Facts.{Instructed, partOfKind, isPart, isEnd, reported, facts}
+use Rattle.journal.specs.Facts.{Instructed, partOfKind, isPart, Ended, isEnd, reported, facts}
 use Rattle.journal.specs.Sums.{termsIn, todayIn, instructedIn, partIn, outstandingIn, ageIn, accountIn, claimsIn, collectedIn, gracePriceIn, graceClosedIn, lastIn, lastClosedIn}
-use Rattle.journal.specs.History.{latestClose, offersIn}
+use Rattle.journal.specs.History.{latestClose, offersIn, forceIn}
 
 -- J10 and J15, Whole journals: what a Status after the list shows of an obligation of the list. It is accepted and
 -- shows the instructed quantity and the sum of each part. These sums and what it shows as outstanding add up to the
@@ -152,6 +156,17 @@ pub record BoughtInTurn (earlier : List Event) (n left : ℕ) (ls : List Line) :
 abbrev pub BuysInTurn : Opening → List Event → List Line → Type 0
 BuysInTurn o earlier ls = (n : ℕ) (i : Instructed) → instructedIn n earlier ≡ some i → 0 < outstandingIn n i earlier →
     inBuyIn (termsIn o .grace .0) (lastIn o n i earlier) (ageIn o i earlier) ≡ true → BoughtInTurn earlier n (outstandingIn n i earlier) ls
+
+-- C4, Close; J18, Whole journals: an accepted Close at this price reported these lines. A row is in force by the events
+-- before it, and the cents of each penalty are those of its quantity, of the price and of the rate of this row.
+pub record PenaltiesBy (o : Opening) (earlier : List Event) (price : ℕ) (ls : List Line) : Type 0 where
+  pub row : RateRow
+  pub in-force : forceIn o earlier ≡ Since row
+  pub cents : Every (λ l. l .kind ≡ penaltyKind → l .cents ≡ penalty (l .quantity) price (row .rate)) ls
+
+-- J18, Whole journals: the penalties of every accepted Close of a journal are those of its price and of the rate in force
+abbrev pub EveryPenalty : Opening → List Event → Type 0
+EveryPenalty o es = EachEvent (λ e earlier. (d : Ended) → facts e .ends ≡ some d → PenaltiesBy o earlier (d .price) (d .lines)) es
 
 -- C7 and C8, Close: every accepted Close of a journal buys in from the offers in the order of C7
 abbrev pub EveryBuyIn : Opening → List Event → Type 0

@@ -53,6 +53,24 @@ unfolding isDigit onlyDigits valueFrom numberOf upTo furtherWords sameWord namin
     listable shapeRight withNumber numbersOf isComment callWith meaningOf
 a-target = refl
 
+-- `rate 7 20` is a call
+a-rate : meaningOf (114 ∷ 97 ∷ 116 ∷ 101 ∷ 32 ∷ 55 ∷ 32 ∷ 50 ∷ 48 ∷ []) ≡ call Name.Rate (Shape.Plain 2) (7 ∷ 20 ∷ [])
+unfolding isDigit onlyDigits valueFrom numberOf upTo furtherWords sameWord namings found namingOf counted listsOf
+    listable shapeRight withNumber numbersOf isComment callWith meaningOf
+a-rate = refl
+
+-- `close 9 1 0`, with a price and a list of one word, is a call
+a-close : meaningOf (99 ∷ 108 ∷ 111 ∷ 115 ∷ 101 ∷ 32 ∷ 57 ∷ 32 ∷ 49 ∷ 32 ∷ 48 ∷ []) ≡ call Name.Close (Shape.Lent 1) (9 ∷ 1 ∷ 0 ∷ [])
+unfolding isDigit onlyDigits valueFrom numberOf upTo furtherWords sameWord namings found namingOf counted listsOf
+    listable shapeRight withNumber numbersOf isComment callWith meaningOf
+a-close = refl
+
+-- `close 9 5 1 0`, with a rate after its price, is no call
+close-with-rate : meaningOf (99 ∷ 108 ∷ 111 ∷ 115 ∷ 101 ∷ 32 ∷ 57 ∷ 32 ∷ 53 ∷ 32 ∷ 49 ∷ 32 ∷ 48 ∷ []) ≡ no-call
+unfolding isDigit onlyDigits valueFrom numberOf upTo furtherWords sameWord namings found namingOf counted listsOf
+    listable shapeRight withNumber numbersOf isComment callWith meaningOf
+close-with-rate = refl
+
 -- `look` with two spaces before its number is no call
 two-spaces : meaningOf (108 ∷ 111 ∷ 111 ∷ 107 ∷ 32 ∷ 32 ∷ 51 ∷ []) ≡ no-call
 unfolding isDigit onlyDigits valueFrom numberOf upTo furtherWords sameWord namings found namingOf counted listsOf
@@ -90,7 +108,7 @@ day-missing : shapeRight Shape.Days (7 ∷ 10 ∷ 1 ∷ []) ≡ false
 unfolding counted listsOf listable shapeRight
 day-missing = refl
 
--- `close 1 2 4097 0` is no call, because its list is too long
-list-too-long : shapeRight (Shape.Lent 2) (1 ∷ 2 ∷ 4_097 ∷ 0 ∷ []) ≡ false
+-- `close 1 4097 0` is no call, because its list is too long
+list-too-long : shapeRight (Shape.Lent 1) (1 ∷ 4_097 ∷ 0 ∷ []) ≡ false
 unfolding counted listsOf listable shapeRight
 list-too-long = refl

@@ -36,7 +36,8 @@ namings =
     ∷ naming (99 ∷ 97 ∷ 110 ∷ 99 ∷ 101 ∷ 108 ∷ []) Name.Cancel (Shape.Plain 2)
     ∷ naming (100 ∷ 101 ∷ 108 ∷ 105 ∷ 118 ∷ 101 ∷ 114 ∷ []) Name.Deliver (Shape.Plain 2)
     ∷ naming (111 ∷ 102 ∷ 102 ∷ 101 ∷ 114 ∷ []) Name.Offer (Shape.Plain 4)
-    ∷ naming (99 ∷ 108 ∷ 111 ∷ 115 ∷ 101 ∷ []) Name.Close (Shape.Lent 2)
+    ∷ naming (114 ∷ 97 ∷ 116 ∷ 101 ∷ []) Name.Rate (Shape.Plain 2)
+    ∷ naming (99 ∷ 108 ∷ 111 ∷ 115 ∷ 101 ∷ []) Name.Close (Shape.Lent 1)
     ∷ naming (97 ∷ 103 ∷ 97 ∷ 105 ∷ 110 ∷ []) Name.Again (Shape.Lent 0)
     ∷ naming (109 ∷ 111 ∷ 110 ∷ 116 ∷ 104 ∷ []) Name.Month Shape.Amounts
     ∷ naming (115 ∷ 116 ∷ 97 ∷ 116 ∷ 117 ∷ 115 ∷ []) Name.Status (Shape.Plain 1)

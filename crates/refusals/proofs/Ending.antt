@@ -12,60 +12,69 @@ use Rattle.basics.proofs.Refusals.{pass, stop, passed, all-passed, refused-ahea
 use Rattle.calendar.specs.declared.Day.{Day}
 use Rattle.calendar.specs.declared.NextDay.{NextDay}
 use Rattle.calendar.specs.declared.NextDay.the-variants.{At, Never}
-use Rattle.amounts.specs.Amounts.{mostClosePrice, mostRate}
+use Rattle.amounts.specs.Amounts.{mostClosePrice}
+use Rattle.rates.specs.declared.InForce.{InForce}
+use Rattle.rates.specs.declared.InForce.the-variants.{Unset}
+use Rattle.rates.specs.Force.{isUnset}
 use Rattle.ledger.specs.Lines.{fewestWords}
-use Rattle.refusals.specs.Calls.{badRates, closeRefusalsIn, closeRefusals, againRefusals}
+use Rattle.refusals.specs.Calls.{closeRefusalsIn, isNever, closeRefusals, againRefusals}
 
-module _ (price rate words : ℕ) where
+module _ (price words : ℕ) where
   -- none of those from the input has the number 0
-  pub close-some : Every (λ r. 0 < r .number) (closeRefusalsIn price rate words)
+  pub close-some : Every (λ r. 0 < r .number) (closeRefusalsIn price words)
   unfolding closeRefusalsIn
-  close-some = is-printed (closeRefusalsIn price rate words) refl .some
+  close-some = is-printed (closeRefusalsIn price words) refl .some
 
   -- what a Close that passes them was given
   pub record Given : Type 0 where
     pub price-some : 1 ≤ price
     pub price-most : price ≤ mostClosePrice
-    pub rate-most : rate ≤ mostRate
     pub long : fewestWords ≤ words
 
-  pub close-given : answer (closeRefusalsIn price rate words) ≡ 0 → Given
+  pub close-given : answer (closeRefusalsIn price words) ≡ 0 → Given
   unfolding closeRefusalsIn
   close-given e =
-      let p3 = passed 3 (badRates price rate) _ e refl in
+      let p3 = passed 3 (outside 1 mostClosePrice price) _ e refl in
       let p5 = passed 5 (ltb words fewestWords) _ (p3 .1) refl in
-      let bad = or-false {a = outside 1 mostClosePrice price} (p3 .0) in
+      let bad = or-false {a = ltb price 1} (p3 .0) in
       record {
-        price-some = ltb-false price 1 (or-false {a = ltb price 1} (bad .0) .0);
-        price-most = ltb-false mostClosePrice price (or-false {a = ltb price 1} (bad .0) .1);
-        rate-most = ltb-false mostRate rate (bad .1);
+        price-some = ltb-false price 1 (bad .0);
+        price-most = ltb-false mostClosePrice price (bad .1);
         long = ltb-false words fewestWords (p5 .0);
       }
 
-  -- refused by the input, whatever the next clearing day is
-  pub close-refused : (next : NextDay) (k : ℕ) → answer (closeRefusalsIn price rate words) ≡ k → (k ≡ 0 → ⊥) → answer (closeRefusals price rate words next) ≡ k
-  unfolding closeRefusals
-  close-refused Never k e z = refused-ahead (closeRefusalsIn price rate words) _ k e z
-  close-refused (At next) k e z = refused-ahead (closeRefusalsIn price rate words) _ k e z
+  module _ (next : NextDay) (force : InForce) where
+    -- refused by the input, whatever the next clearing day and the rate in force are
+    pub close-refused : (k : ℕ) → answer (closeRefusalsIn price words) ≡ k → (k ≡ 0 → ⊥) → answer (closeRefusals price words next force) ≡ k
+    unfolding closeRefusals
+    close-refused k e z = refused-ahead (closeRefusalsIn price words) _ k e z
 
-  -- a Close that passes them is refused by 20 where there is no next clearing day, and done where there is one
-  pub close-never : (next : NextDay) → next ≡ Never → answer (closeRefusalsIn price rate words) ≡ 0 → answer (closeRefusals price rate words next) ≡ 20
-  unfolding closeRefusals
-  close-never next q e = rw q (passed-ahead (closeRefusalsIn price rate words) _ close-some e ∙ stop 20 [] refl)
+    -- A Close that passes them is refused by 20 if there is no next clearing day. If there is one, it is refused by 26 if
+    -- no rate is in force, and done if one is.
+    pub close-never : next ≡ Never → answer (closeRefusalsIn price words) ≡ 0 → answer (closeRefusals price words next force) ≡ 20
+    unfolding closeRefusals
+    close-never q e = passed-ahead (closeRefusalsIn price words) _ close-some e ∙ stop 20 _ (ap isNever q)
 
-  pub close-at : (next : NextDay) (d : Day) → next ≡ At d → answer (closeRefusalsIn price rate words) ≡ 0 → answer (closeRefusals price rate words next) ≡ 0
-  unfolding closeRefusals
-  close-at next d q e = rw q (passed-ahead (closeRefusalsIn price rate words) _ close-some e ∙ pass _ [] refl ∙ all-passed)
+    pub close-unset : (d : Day) → next ≡ At d → force ≡ Unset → answer (closeRefusalsIn price words) ≡ 0 → answer (closeRefusals price words next force) ≡ 26
+    unfolding closeRefusals
+    close-unset d q f e = passed-ahead (closeRefusalsIn price words) _ close-some e ∙ pass 20 _ (ap isNever q) ∙ stop 26 [] (ap isUnset f)
 
-  -- a Close that is done passed the refusals from its input, and there is a next clearing day
-  pub close-passed : (next : NextDay) → answer (closeRefusals price rate words next) ≡ 0 → answer (closeRefusalsIn price rate words) ≡ 0
-  unfolding closeRefusals
-  close-passed Never e = ahead-passed (closeRefusalsIn price rate words) _ close-some e .0
-  close-passed (At next) e = ahead-passed (closeRefusalsIn price rate words) _ close-some e .0
+    pub close-at : (d : Day) → next ≡ At d → isUnset force ≡ false → answer (closeRefusalsIn price words) ≡ 0 → answer (closeRefusals price words next force) ≡ 0
+    unfolding closeRefusals
+    close-at d q f e = passed-ahead (closeRefusalsIn price words) _ close-some e ∙ pass 20 _ (ap isNever q) ∙ pass 26 [] f ∙ all-passed
 
-  pub never-refused : answer (closeRefusals price rate words Never) ≡ 0 → ⊥
-  unfolding closeRefusals
-  never-refused e = false≢true (sym (passed _ _ _ (ahead-passed (closeRefusalsIn price rate words) _ close-some e .1) refl .0))
+    -- a Close that is done passed the refusals from its input, there is a next clearing day, and a rate is in force
+    pub record Passed : Type 0 where
+      pub input : answer (closeRefusalsIn price words) ≡ 0
+      pub next-day : isNever next ≡ false
+      pub rate : isUnset force ≡ false
+
+    pub close-passed : answer (closeRefusals price words next force) ≡ 0 → Passed
+    unfolding closeRefusals
+    close-passed e =
+        let p = ahead-passed (closeRefusalsIn price words) _ close-some e in
+        let p20 = passed 20 (isNever next) _ (p .1) refl in
+        record { input = p .0; next-day = p20 .0; rate = passed 26 (isUnset force) [] (p20 .1) refl .0 }
 
 -- ---- Again
 module _ (closed : Bool) (words : ℕ) where

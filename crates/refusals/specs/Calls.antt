@@ -1,8 +1,8 @@
--- The refusals of Enter, Cancel, Deliver, Offer, Close and Again: by what the call is given, on the obligation that was
--- fetched, and by the next clearing day. This file also has the outcome of a call that names an obligation, and the
+-- The refusals of Enter, Cancel, Deliver, Offer, Rate, Close and Again: by what the call is given, on the obligation
+-- that was fetched, by the rates of the book, and by the next clearing day. This file also has the outcome of a call that names an obligation, and the
 -- condition on the first day of an Open.
-use Prim.Native.Nat.{ℕ}
-use mathlib.Core.Bool.{Bool, true, false, _||_, not}
+use Prim.Native.Nat.{ℕ, _+_}
+use mathlib.Core.Bool.{Bool, true, false, _||_, _&&_, not}
 use mathlib.Core.List.{List, [], _∷_, _++_}
 use lib.Dec.{ltb, leb, eqb}
 use Rattle.basics.specs.Refusals.{Refusal, refuse, answer, outcome, outside}
@@ -14,6 +14,10 @@ use Rattle.calendar.specs.Closed.{lastDay, listedDays}
 use Rattle.calendar.specs.Days.{clearing}
 use Rattle.amounts.specs.Amounts.{mostQuantity, mostAmount, mostClosePrice, mostOfferPrice, mostRate, aboveCap}
 use Rattle.offers.specs.Held.{mostOffers}
+use Rattle.rates.specs.declared.Rates.{Rates}
+use Rattle.rates.specs.declared.InForce.{InForce}
+use Rattle.rates.specs.Rows.{mostRows, holds, listedRates}
+use Rattle.rates.specs.Force.{inForce, isUnset}
 use Rattle.instructions.specs.declared.Leg.{Leg}
 use Rattle.instructions.specs.Legs.{mostLegs}
 use Rattle.ledger.specs.declared.Terms.{Terms}
@@ -107,23 +111,46 @@ offerRefusalsOf terms today age offers o price =
     ∷ refuse 18 (aboveCap price (o .stage .«grace_price»))
     ∷ []
 
--- ---- Close
--- R3, Refusals: Close is refused if the price is 0 or above 150,000, or if the rate is above 100
-abbrev pub badRates : ℕ → ℕ → Bool
-badRates price rate = outside 1 mostClosePrice price || ltb mostRate rate
+-- ---- Rate
+-- R24, Refusals: Rate is refused if the starting day is before today or above 65,535
+abbrev pub badStart : Day → Day → Bool
+badStart today start = ltb (start .0) (today .0) || ltb lastDay (start .0)
 
+-- F7, Rates; R25, Refusals: the last place is free, the starting day is after today, and no row has started. The last
+-- place is for a row that has started.
+unfoldable pub lastKept : Day → Rates → Day → Bool
+lastKept today rates start = eqb (rates .count + 1) mostRows && (ltb (today .0) (start .0) && isUnset (inForce today (listedRates rates)))
+
+-- R25, Refusals: Rate is refused if the starting day is new and there is no place for it
+unfoldable pub noPlace : Day → Rates → Day → Bool
+noPlace today rates start = not (holds start (listedRates rates)) && (leb mostRows (rates .count) || lastKept today rates start)
+
+-- A19, R3, R24 and R25, Refusals: the refusals of Rate, in a book with these rates on this day
+unfoldable pub rateRefusals : Day → Rates → Day → ℕ → List Refusal
+rateRefusals today rates start rate =
+    refuse 3 (ltb mostRate rate)
+    ∷ refuse 24 (badStart today start)
+    ∷ refuse 25 (noPlace today rates start)
+    ∷ []
+
+-- ---- Close
 -- R5, Refusals: Close and Again are refused if the list has too few words
 abbrev pub isShort : ℕ → Bool
 isShort words = ltb words fewestWords
 
 -- A12, R3 and R5, Refusals: the refusals of Close by what it is given, with this many words lent
-unfoldable pub closeRefusalsIn : ℕ → ℕ → ℕ → List Refusal
-closeRefusalsIn price rate words = refuse 3 (badRates price rate) ∷ refuse 5 (isShort words) ∷ []
+unfoldable pub closeRefusalsIn : ℕ → ℕ → List Refusal
+closeRefusalsIn price words = refuse 3 (outside 1 mostClosePrice price) ∷ refuse 5 (isShort words) ∷ []
 
--- A12 and R20, Refusals: the refusals of Close, by the next clearing day after today. If there is none, 20 holds.
-unfoldable pub closeRefusals : ℕ → ℕ → ℕ → NextDay → List Refusal
-closeRefusals price rate words Never = closeRefusalsIn price rate words ++ refuse 20 true ∷ []
-closeRefusals price rate words (At next) = closeRefusalsIn price rate words ++ refuse 20 false ∷ []
+-- R20, Refusals: whether there is no next clearing day
+abbrev pub isNever : NextDay → Bool
+isNever Never = true
+isNever (At next) = false
+
+-- A12, R20 and R26, Refusals: the refusals of Close, by the next clearing day after today and by the rate in force. If
+-- there is no such day, 20 holds, and if no rate is in force, 26 holds.
+unfoldable pub closeRefusals : ℕ → ℕ → NextDay → InForce → List Refusal
+closeRefusals price words next force = closeRefusalsIn price words ++ refuse 20 (isNever next) ∷ refuse 26 (isUnset force) ∷ []
 
 -- ---- Again
 -- A17, R5 and R22, Refusals: the refusals of Again, by whether a Close was accepted since Open, with this many words

@@ -1,5 +1,5 @@
-// The refusals of Enter, Cancel, Deliver, Offer, Close and Again that need no book: from the input, and on the obligation
-// that was fetched. A function `.._answer` gives the answer number of all refusals of its call, `.._answer_in` that of
+// The refusals of Enter, Cancel, Deliver, Offer, Rate, Close and Again that need no book: from the input, on the
+// obligation that was fetched, and by the rates. A function `.._answer` gives the answer number of all refusals of its call, `.._answer_in` that of
 // those from its input, and `.._answer_of` that of those on the obligation; it is 0 if none holds.
 use amounts::MOST_AMOUNT;
 use amounts::MOST_CLOSE_PRICE;
@@ -19,14 +19,18 @@ use ledger::Obligation;
 use ledger::Terms;
 use netting::LAST_MEMBER;
 use offers::MOST_OFFERS;
+use rates::MOST_ROWS;
+use rates::Rates;
 ghost use mathlib.Core.Path.{_≡_};
 ghost use Prim.Native.Nat.{_≤_};
 ghost use Rattle.basics.specs.Refusals.{answer};
 ghost use Rattle.amounts.specs.Amounts.{mostOfferPrice, mostClosePrice};
 ghost use Rattle.instructions.specs.Legs.{legOf};
 ghost use Rattle.ledger.specs.Setup.{ValidTerms};
+ghost use Rattle.rates.specs.Rows.{mostRows};
 ghost use Rattle.refusals.specs.Calls.{badFirst, badParties, badDay, enterRefusals, cancelRefusalsOf};
-ghost use Rattle.refusals.specs.Calls.{deliverRefusalsOf, offerRefusalsIn, offerRefusalsOf, badRates, isShort, closeRefusalsIn, againRefusals};
+ghost use Rattle.refusals.specs.Calls.{deliverRefusalsOf, offerRefusalsIn, offerRefusalsOf, badStart, lastKept, noPlace, rateRefusals};
+ghost use Rattle.refusals.specs.Calls.{isShort, closeRefusalsIn, againRefusals};
 
 // Whether the members or the side of an instruction are refused.
 pub fn are_bad_parties(member: u64, other: u64, side: u64) -> bool
@@ -141,11 +145,44 @@ pub fn offer_answer_of(
     0
 }
 
-// Whether the price or the rate of a Close is refused.
-fn are_bad_rates(price: u64, rate: u64) -> bool
-    ensures { λ r. ⌜ r ≡ badRates price rate ⌝ }
+// Whether a starting day is refused: it is before today or above the last day.
+fn is_bad_start(today: Day, start: Day) -> bool
+    ensures { λ r. ⌜ r ≡ badStart today start ⌝ }
 {
-    basics::is_outside(1, MOST_CLOSE_PRICE, price) || MOST_RATE < rate
+    start.0 < today.0 || LAST_DAY < start.0
+}
+
+// Whether the last place is kept for a row that has started, so that a Close can come.
+fn keeps_last(today: Day, held: Rates, start: Day) -> bool
+    requires { ⌜ held .count ≤ mostRows ⌝ }
+    ensures { λ r. ⌜ r ≡ lastKept today held start ⌝ }
+{
+    held.count + 1 == MOST_ROWS && (today.0 < start.0 && held.none_started(today))
+}
+
+// Whether there is no place for a row with this starting day.
+fn has_no_place(today: Day, held: Rates, start: Day) -> bool
+    requires { ⌜ held .count ≤ mostRows ⌝ }
+    ensures { λ r. ⌜ r ≡ noPlace today held start ⌝ }
+{
+    !held.has_row(start) && (MOST_ROWS <= held.count || keeps_last(today, held, start))
+}
+
+// The answer number of a Rate, in a book with these rates and this day.
+pub fn rate_answer(today: Day, held: Rates, start: Day, rate: u64) -> u64
+    requires { ⌜ held .count ≤ mostRows ⌝ }
+    ensures { λ r. ⌜ r ≡ answer (rateRefusals today held start rate) ⌝ }
+{
+    if MOST_RATE < rate {
+        return 3;
+    }
+    if is_bad_start(today, start) {
+        return 24;
+    }
+    if has_no_place(today, held, start) {
+        return 25;
+    }
+    0
 }
 
 // Whether a list is too short for the lines of a Close.
@@ -156,10 +193,10 @@ fn is_short(words: usize) -> bool
 }
 
 // The answer number of a Close by its own numbers, with this many words lent.
-pub fn close_answer_in(price: u64, rate: u64, words: usize) -> u64
-    ensures { λ r. ⌜ r ≡ answer (closeRefusalsIn price rate words) ⌝ }
+pub fn close_answer_in(price: u64, words: usize) -> u64
+    ensures { λ r. ⌜ r ≡ answer (closeRefusalsIn price words) ⌝ }
 {
-    if are_bad_rates(price, rate) {
+    if basics::is_outside(1, MOST_CLOSE_PRICE, price) {
         return 3;
     }
     if is_short(words) {

@@ -62,13 +62,13 @@ module _ (b : Book) (a : Asked) (ns ws : List ℕ) (l : Line) (p : Played) (afte
 
   -- a close: the book, the answer number and the lines of a Close, in the words that it was lent
   pub closes : l ≡ Line.Call Name.Close shape n
-      → (p ≡ afterClose (close b (a .first) (a .second) (a .lent)) (a .lent) (a .fill))
-      × (after ≡ closeWords b (a .first) (a .second) (lentTo a) ++ drop (a .lent) ws)
+      → (p ≡ afterClose (close b (a .first) (a .lent)) (a .lent) (a .fill))
+      × (after ≡ closeWords b (a .first) (lentTo a) ++ drop (a .lent) ws)
   unfolding answerBy wordsBy
   closes e =
       let is = asked-as gives e refl in (
         is .0
-            ∙ ap (λ (k : ℕ). afterClose (close b (a .first) (a .second) k) (a .lent) (a .fill))
+            ∙ ap (λ (k : ℕ). afterClose (close b (a .first) k) (a .lent) (a .fill))
             (length-replicate (a .lent) (a .fill)),
         is .1,
       )

@@ -25,6 +25,7 @@ use Rattle.reading.specs.Lines.{Meaning, isComment, mostBytes, callWith, meanin
 use Rattle.reading.specs.Lines.Meaning.{call, comment, no-call}
 use Rattle.reading.proofs.Shapes.{shape-plain}
 use Rattle.reading.proofs.Arguments.{call-arguments, days-listed, lent-listed, amounts-listed}
+use Rattle.calendar.specs.Closed.{day}
 use Rattle.journal.specs.Calls as journal
 use Rattle.settle.specs.declared.calls.Asked.{Asked}
 use Rattle.settle.specs.Asked.{askedCall, askedOf, asks, noted}
@@ -93,7 +94,7 @@ module _ (places : List ℕ) (count : ℕ) (within : count ≤ length places) wh
   Same name shape = shapeRight shape own ≡ true
       → askingOf name (askedCall name shape count places) places ≡ askingOf name (askedCall name shape count own) own
 
-  -- a withdraw, a cancel and a deliver have two numbers each
+  -- a withdraw, a cancel, a deliver and a rate have two numbers each
   same-two : (make : ℕ → ℕ → journal.Call) → shapeRight (Shape.Plain 2) own ≡ true
       → plain (make (getD places 0 0) (getD places 1 0)) ≡ plain (make (getD own 0 0) (getD own 1 0))
   same-two make s = let n = plains 2 s in rw (n 0 refl, n 1 refl)
@@ -112,11 +113,11 @@ module _ (places : List ℕ) (count : ℕ) (within : count ≤ length places) wh
   unfolding askedCall
   same-offer s = let n = plains 4 s in rw (n 0 refl, n 1 refl, n 2 refl, n 3 refl)
 
-  same-close : Same Name.Close (Shape.Lent 2)
+  same-close : Same Name.Close (Shape.Lent 1)
   unfolding askedCall
   same-close s =
-      let n = lent-listed places count within 2 s .0 in
-      rw (number 0 (omega arith), number 1 (omega arith), number (count - 2) (omega arith), number (count - 1) (omega arith))
+      let n = lent-listed places count within 1 s .0 in
+      rw (number 0 (omega arith), number (count - 2) (omega arith), number (count - 1) (omega arith))
 
   same-again : Same Name.Again (Shape.Lent 0)
   unfolding askedCall
@@ -140,6 +141,7 @@ module _ (places : List ℕ) (count : ℕ) (within : count ≤ length places) wh
       (also (same-two journal.Call.cancel)
       (also (same-two journal.Call.deliver)
       (also same-offer
+      (also (same-two (λ (start rate : ℕ). journal.Call.rate (day start) rate))
       (also same-close
       (also same-again
       (also same-month
@@ -147,7 +149,7 @@ module _ (places : List ℕ) (count : ℕ) (within : count ≤ length places) wh
       (also (λ s. refl)
       (also (λ s. refl)
       (also (λ s. refl)
-      (also (λ s. refl) nobody)))))))))))))
+      (also (λ s. refl) nobody))))))))))))))
 
 -- ---- lines
 -- what a line asks for, by the numbers in the buffer

@@ -84,7 +84,7 @@ plain c = a-call (record { call = c; manner = by-numbers })
 
 -- what a `close` asks for: a Close that is lent words for its lines
 abbrev pub closeAsked : Asked → Asking
-closeAsked a = record { call = Call.close (a .first) (a .second) (lentTo a); manner = by-lines }
+closeAsked a = record { call = Call.close (a .first) (lentTo a); manner = by-lines }
 
 -- what an `again` asks for: an Again that is lent words for its lines
 abbrev pub againAsked : Asked → Asking
@@ -103,6 +103,7 @@ askingOf Name.Withdraw a ns = plain (Call.withdraw (a .first) (a .second))
 askingOf Name.Cancel a ns = plain (Call.cancel (a .first) (a .second))
 askingOf Name.Deliver a ns = plain (Call.deliver (a .first) (a .second))
 askingOf Name.Offer a ns = plain (Call.offer (a .first) (a .second) (a .third) (a .fourth))
+askingOf Name.Rate a ns = plain (Call.rate (day (a .first)) (a .second))
 askingOf Name.Close a ns = a-call (closeAsked a)
 askingOf Name.Again a ns = a-call (againAsked a)
 askingOf Name.Month a ns = a-call (monthAsked a ns)
@@ -210,7 +211,7 @@ wordsTargeted a ws = leftWith a (targetWords (a .first) (a .second) (lentTo a)) 
 
 -- the edition of the rules: the number of the latest change in docs/RULES.md
 abbrev pub edition : ℕ
-edition = 4
+edition = 5
 
 -- the answer to rules: 0 and the edition
 abbrev pub editionTold : Answer

@@ -227,7 +227,7 @@ pub fn close(book: Book, a: Asked, words: &mut [u64]) -> Played
 {
     let lent = a.lent;
     fill(words, lent, a.fill);
-    let done = book.close(a.first, a.second, &mut words[..lent]);
+    let done = book.close(a.first, &mut words[..lent]);
     closed(done, lent, a.fill)
 }
 
@@ -308,7 +308,7 @@ pub fn target_days(a: Asked, words: &mut [u64]) -> Answer
 }
 
 // The edition of the rules that the book follows: the number of the latest change in docs/RULES.md.
-pub const EDITION: u64 = 4;
+pub const EDITION: u64 = 5;
 
 pub fn rules() -> Answer
     ensures { λ r. ⌜ r ≡ editionTold ⌝ }

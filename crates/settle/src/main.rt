@@ -2,6 +2,7 @@
 // at a time, so its memory does not grow with the journal. Whenever its input is used up, it writes all answers so far.
 // With an argument on its command line it says what it is and plays nothing.
 use answers::Answer;
+use calendar::Day;
 use flow::Course;
 use libc::STDOUT_FILENO;
 use reading::Line;
@@ -62,6 +63,7 @@ fn settle_all(
                 Name::Offer => {
                     played = calls::done(played.book.offer(a.first, a.second, a.third, a.fourth))
                 }
+                Name::Rate => played = calls::done(played.book.rate(Day(a.first), a.second)),
                 Name::Close => played = calls::close(played.book, a, words),
                 Name::Again => played = calls::again(played.book, a, words),
                 Name::Month => played = calls::month(played.book, a, numbers, words),

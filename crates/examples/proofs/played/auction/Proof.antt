@@ -33,8 +33,8 @@ offered c =
     ∙ ap (λ (b : Book). bookAfter b (offer 0 1 7 101000 ∷ [])) (first .before .in-buy-in .ensures .0)))
 
 -- the list of the Close, as it ends
-listed : (c : tie.After-close) → c .close .last .1 .1 .1 .0 ≡ listAfter auctionOffers
-listed c = c .close .ensures .1 .0 ∙ ap (λ (b : Book). closeWords b 100000 0 (replicate fewestWords 0)) (offered c)
+listed : (c : tie.After-close) → c .close .last .1 .1 .0 ≡ listAfter auctionOffers
+listed c = c .close .ensures .1 .0 ∙ ap (λ (b : Book). closeWords b 100000 (replicate fewestWords 0)) (offered c)
 
 bought-requires : tie.Need-bought-requires
 bought-requires c κs = (omega arith, search (length-mapped, needs), ap (boughtAt 1) (listed (c .before .before .before)) ∙ example-10-lines .0)
@@ -47,10 +47,10 @@ returns : tie.Need-returns
 unfolding flat
 returns c =
     let closed = c .before .before .before .before .before .before in
-    let count = closed .close .ensures .0 ∙ ap (λ (b : Book). close b 100000 0 fewestWords) (offered closed) in
+    let count = closed .close .ensures .0 ∙ ap (λ (b : Book). close b 100000 fewestWords) (offered closed) in
     omega (
       arith,
-      none-differs (ap (λ (k : Closed). k .count) count ∙ ap (λ (l : List ℕ). getD l 17 0) example-10) (c .before .before .before .before .compared .ensures .0),
+      none-differs (ap (λ (k : Closed). k .count) count ∙ ap (λ (l : List ℕ). getD l 18 0) example-10) (c .before .before .before .before .compared .ensures .0),
       c .before .before .bought .ensures,
       c .bought2 .ensures,
     )

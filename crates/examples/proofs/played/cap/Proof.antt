@@ -38,8 +38,8 @@ returns c = let one = c .before .before .before .before .offer .ensures .0 ∙ a
     let two = c .before .before .offer2 .ensures .0 ∙ ap (λ (d : Done). offer (d .book) 0 7 5 107999) one in
     omega (
       arith,
-      none-differs (ap (λ (d : Done). d .answer) one ∙ ap (λ (l : List ℕ). getD l 13 0) example-4) (c .before .compared .ensures .0),
-      none-differs (ap (λ (d : Done). d .answer) two ∙ ap (λ (l : List ℕ). getD l 14 0) example-4) (c .compared2 .ensures .0),
+      none-differs (ap (λ (d : Done). d .answer) one ∙ ap (λ (l : List ℕ). getD l 14 0) example-4) (c .before .compared .ensures .0),
+      none-differs (ap (λ (d : Done). d .answer) two ∙ ap (λ (l : List ℕ). getD l 15 0) example-4) (c .compared2 .ensures .0),
     )
 
 pub cap-spec : {M : Type 1} → statement M

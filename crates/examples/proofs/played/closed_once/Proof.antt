@@ -9,8 +9,8 @@ use Rattle.examples.specs.Played.{bookAfter, sale}
 use Rattle.examples.proofs.played.closed_once.Statement.{statement}
 use Rattle.examples.proofs.played.closed_once.Tie as tie
 
-opened-requires : tie.Need-opened-requires
-opened-requires c κs = search needs
+rated-requires : tie.Need-rated-requires
+rated-requires c κs = search needs
 
 with-sale-requires : tie.Need-with-sale-requires
 with-sale-requires c κs = search needs
@@ -26,15 +26,15 @@ close-requires c κs = search needs
 
 returns : tie.Need-returns
 returns c =
-    let one = c .before .before .before .before .before .with-sale .ensures .0 ∙ ap (λ (b : Book). bookAfter b (sale 3 0 200 1000)) (c .before .before .before .before .before .before .opened .ensures .0) in
+    let one = c .before .before .before .before .before .with-sale .ensures .0 ∙ ap (λ (b : Book). bookAfter b (sale 3 0 200 1000)) (c .before .before .before .before .before .before .rated .ensures .0) in
     let two = c .before .before .before .before .with-sale2 .ensures .0 ∙ ap (λ (b : Book). bookAfter b (sale 3 1 100 1000)) one in
-    (ap (λ (k : Closed). k .book) (c .before .before .close .ensures .0 ∙ ap (λ (b : Book). close b 100000 10 fewestWords) two), search needs)
+    (ap (λ (k : Closed). k .book) (c .before .before .close .ensures .0 ∙ ap (λ (b : Book). close b 100000 fewestWords) two), search needs)
 
 pub closed-once-spec : {M : Type 1} → statement M
 closed-once-spec =
     tie.close
     (tie.spec
-    opened-requires
+    rated-requires
     with-sale-requires
     with-sale-requires-2
     slice-aggregate-close

@@ -8,14 +8,18 @@ use Rattle.closing.specs.Lines.{flat}
 use Rattle.book.specs.declared.Book.{Book}
 use Rattle.book.specs.declared.Delivered.{Delivered}
 use Rattle.book.specs.Instructing.{deliver}
+use Rattle.examples.specs.Played.{bookAfter, sale}
 use Rattle.examples.proofs.Same.{none-differs}
 use Rattle.examples.proofs.Settled.{example-7}
 use borrow.Author.Needs.{needs}
 use Rattle.examples.proofs.played.deliveries.Statement.{statement}
 use Rattle.examples.proofs.played.deliveries.Tie as tie
 
-sold-requires : tie.Need-sold-requires
-sold-requires c κs = search needs
+opened-requires : tie.Need-opened-requires
+opened-requires c κs = search needs
+
+with-sale-requires : tie.Need-with-sale-requires
+with-sale-requires c κs = search needs
 
 deliver-requires : tie.Need-deliver-requires
 deliver-requires c κs = search needs
@@ -43,7 +47,7 @@ add-result-2 c = search needs
 
 returns : tie.Need-returns
 unfolding flat
-returns c = let one = c .before .before .before .before .before .before .before .deliver .ensures .0 ∙ ap (λ (b : Book). deliver b 0 1) (c .before .before .before .before .before .before .before .before .sold .ensures .0) in
+returns c = let one = c .before .before .before .before .before .before .before .deliver .ensures .0 ∙ ap (λ (b : Book). deliver b 0 1) (c .before .before .before .before .before .before .before .before .with-sale .ensures .0 ∙ ap (λ (b : Book). bookAfter b (sale 0 1 3 1000)) (c .before .before .before .before .before .before .before .before .before .opened .ensures .0)) in
     let two = c .before .before .before .before .before .deliver2 .ensures .0 ∙ ap (λ (d : Delivered). deliver (d .book) 0 1) one in
     let three = c .before .before .before .deliver3 .ensures .0 ∙ ap (λ (d : Delivered). deliver (d .book) 0 1) two in
     omega (
@@ -57,7 +61,8 @@ pub deliveries-spec : {M : Type 1} → statement M
 deliveries-spec =
     tie.close
     (tie.spec
-    sold-requires
+    opened-requires
+    with-sale-requires
     deliver-requires
     deliver-requires-2
     deliver-requires-3

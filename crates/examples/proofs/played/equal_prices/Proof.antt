@@ -32,17 +32,17 @@ offered c =
 bought-requires : tie.Need-bought-requires
 bought-requires c κs =
     let closed = c .before .before .before in
-    let list = closed .close .ensures .1 .0 ∙ ap (λ (b : Book). closeWords b 100000 0 (replicate fewestWords 0)) (offered closed) in
+    let list = closed .close .ensures .1 .0 ∙ ap (λ (b : Book). closeWords b 100000 (replicate fewestWords 0)) (offered closed) in
     (omega arith, search (length-mapped, needs), ap (boughtAt 1) list ∙ example-14-line)
 
 returns : tie.Need-returns
 unfolding flat
 returns c =
     let closed = c .before .before .before .before in
-    let count = closed .close .ensures .0 ∙ ap (λ (b : Book). close b 100000 0 fewestWords) (offered closed) in
+    let count = closed .close .ensures .0 ∙ ap (λ (b : Book). close b 100000 fewestWords) (offered closed) in
     omega (
       arith,
-      none-differs (ap (λ (k : Closed). k .count) count ∙ ap (λ (l : List ℕ). getD l 16 0) example-14) (c .before .before .compared .ensures .0),
+      none-differs (ap (λ (k : Closed). k .count) count ∙ ap (λ (l : List ℕ). getD l 17 0) example-14) (c .before .before .compared .ensures .0),
       c .bought .ensures,
     )
 

@@ -24,8 +24,8 @@ first-two : (amounts : List ℕ) → monthPlayed twoSales (month amounts (replic
     (getD (paidOn amounts closedOnce) 0 0 ≡ 200) × (getD (paidOn amounts closedOnce) 1 0 ≡ 100)
 first-two amounts e =
     let words = paidOn amounts closedOnce in (
-      sym (taken-place 3 words 0 (omega arith)) ∙ ap (λ (l : List ℕ). getD l 6 0) e,
-      sym (taken-place 3 words 1 (omega arith)) ∙ ap (λ (l : List ℕ). getD l 7 0) e,
+      sym (taken-place 3 words 0 (omega arith)) ∙ ap (λ (l : List ℕ). getD l 7 0) e,
+      sym (taken-place 3 words 1 (omega arith)) ∙ ap (λ (l : List ℕ). getD l 8 0) e,
     )
 
 -- all that member 3 owes

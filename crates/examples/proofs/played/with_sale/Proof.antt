@@ -17,7 +17,7 @@ enter-requires-2 c κs = search needs
 returns : tie.Need-returns
 returns c = let s = c .before .before .before .before .args in
     let one = ap (λ (o : Entered). o .book) (c .before .before .before .enter .ensures .0) in
-    (ap (λ (o : Entered). o .book) (c .before .enter2 .ensures .0 ∙ ap (λ (b : Book). enter b (s .buyer) (s .seller) 1 (s .quantity) (s .amount) (day 2)) one), search needs)
+    (ap (λ (o : Entered). o .book) (c .before .enter2 .ensures .0 ∙ ap (λ (b : Book). enter b (s .buyer) (s .seller) 1 (s .quantity) (s .amount) (day (s .due))) one), search needs)
 
 pub with-sale-spec : {M : Type 1} → statement M
 with-sale-spec = tie.close (tie.spec enter-requires enter-requires-2 returns)

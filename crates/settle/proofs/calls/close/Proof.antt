@@ -25,7 +25,7 @@ returns c =
     let b = s .args .book in
     let a = s .args .a in
     lines-lent (a .lent) (a .fill) (s .args .words .now) _ (filled .fill .ensures)
-    (λ (ws : List ℕ). close b (a .first) (a .second) (length ws)) (closeWords b (a .first) (a .second)) (done .close .result) _ (done .close .ensures) (c .closed .ensures)
+    (λ (ws : List ℕ). close b (a .first) (length ws)) (closeWords b (a .first)) (done .close .result) _ (done .close .ensures) (c .closed .ensures)
 
 pub close-spec : {M : Type 1} → statement M
 close-spec =
