@@ -11,7 +11,7 @@ LAWS = {
     "crates/journal/proofs/Recalled.antt": ["Remembered", "remembered", "no-26-again"],
     "crates/basics/proofs/Refusals.antt": ["Printed", "Smallest", "NoneHolds", "Refuses", "refuses-by", "refuses-none"],
     "crates/book/proofs/Refused.antt": [".*-refuses"],
-    "crates/book/proofs/Usable.antt": ["close-started", "rate-taken", "rate-used"],
+    "crates/book/proofs/Usable.antt": ["close-started", "few-held", "rate-taken", "rate-used"],
     "crates/rates/proofs/Ruling.antt": ["Greatest", "in-force-greatest", "none-started"],
     "crates/holidays/proofs/Refused.antt": ["target-refuses"],
     "crates/settle/proofs/Journals.antt": ["held-promised"],

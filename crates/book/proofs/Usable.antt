@@ -1,6 +1,6 @@
 -- F7 and F8, Rates: refusal 26 of Close cannot bring a book to a halt. If no row has started, a Rate for today is
 -- accepted, and a Close is not refused by 26 once a row has started.
-use Prim.Native.Nat.{ℕ, _≤_}
+use Prim.Native.Nat.{ℕ, _≤_, _<_}
 use native.Mathlib.Omega.{arith}
 use mathlib.Core.Path.{_≡_, sym, ap, _∙_}
 use mathlib.Core.Bool.{true, false}
@@ -8,9 +8,9 @@ use borrow.Author.Tests.{le-leb}
 use Rattle.basics.specs.Lists.{Every}
 use Rattle.basics.proofs.Refusals.{done-by, never-given}
 use Rattle.amounts.specs.Amounts.{mostRate}
-use Rattle.rates.specs.Rows.{rowOf}
+use Rattle.rates.specs.Rows.{mostRows, rowOf}
 use Rattle.rates.specs.Force.{hasStarted, isUnset}
-use Rattle.rates.proofs.Keeping.{entered-started}
+use Rattle.rates.proofs.Keeping.{unstarted-few, entered-started}
 use Rattle.refusals.specs.Calls.{closeRefusalsIn, closeRefusals}
 use Rattle.refusals.proofs.Rating.{rate-given, today-taken}
 use Rattle.book.specs.declared.Book.{Book}
@@ -41,6 +41,10 @@ module _ (b : Book) (v : Valid b) (none : isUnset (forceOf b) ≡ true) (rate : 
   started =
       entered-started (todayOf b) (b .rates) (v .rates) (rowOf (todayOf b) rate) (rate-given (todayOf b) (b .rates) (todayOf b) rate taken .room)
       (le-leb (todayOf b .0) (todayOf b .0) (omega arith))
+
+-- F7, Rates: if no row has started, at most 15 are held
+pub few-held : (b : Book) → Valid b → isUnset (forceOf b) ≡ true → b .rates .count < mostRows
+few-held b v none = unstarted-few (todayOf b) (b .rates) (v .rates) none
 
 -- F7, Rates: if no row has started, a Rate for today with a rate up to 100 is accepted
 pub rate-taken : (b : Book) → Valid b → isUnset (forceOf b) ≡ true → (rate : ℕ) → rate ≤ mostRate → rated b (todayOf b) rate .answer ≡ 0

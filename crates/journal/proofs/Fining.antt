@@ -7,7 +7,6 @@ use mathlib.Core.Bool.{Bool, true, false}
 use mathlib.Core.List.{List, [], _∷_, _++_}
 use mathlib.Core.Option.{Option, none, some}
 use Rattle.basics.specs.Choice.{pick}
-use Rattle.basics.specs.Lists.{Every}
 use Rattle.basics.proofs.Cases.{never}
 use Rattle.basics.proofs.Everywhere.{every-map}
 use Rattle.calendar.specs.declared.Day.{Day}
@@ -20,14 +19,11 @@ use Rattle.amounts.specs.Amounts.{penalty}
 use Rattle.rates.specs.declared.RateRow.{RateRow}
 use Rattle.rates.specs.declared.InForce.{InForce}
 use Rattle.rates.specs.declared.InForce.the-variants.{Since, Unset}
-use Rattle.rates.specs.Rows.{enteredRows, listedRates}
 use Rattle.rates.specs.Force.{inForce, isUnset, rateOf}
 use Rattle.rates.proofs.Ruling.{others-set, set-later, force-entered}
 use Rattle.closing.specs.declared.Line.{Line}
-use Rattle.closing.specs.Lines.{penaltyKind}
 use Rattle.closing.proofs.Cents.{penalty-lines}
 use Rattle.book.specs.declared.Book.{Book}
-use Rattle.book.specs.Book.{todayOf}
 use Rattle.book.specs.Close.{forceOf, close}
 use Rattle.book.proofs.Usable.{close-started}
 use Rattle.journal.specs.Calls.{Opening, Event, Run}

@@ -1,11 +1,13 @@
 -- What holds of the rates of a book holds of a fresh one, on every later day, and with a further row.
 use Prim.Native.Nat.{_+_, _≤_, _<_}
 use native.Mathlib.Omega.{arith}
-use mathlib.Core.Path.{_≡_, refl, ap, subst, _∙_}
+use mathlib.Core.Path.{_≡_, refl, sym, ap, subst, _∙_}
 use mathlib.Core.Bool.{Bool, true, false}
+use mathlib.Core.Logic.{_⊎_, inl, inr}
 use mathlib.Core.List.{List, _∷_}
 use lib.ListN.{length, length-replicate}
 use Rattle.basics.specs.Lists.{Every, Sorted}
+use Rattle.basics.proofs.Cases.{never, below-or-not}
 use Rattle.basics.proofs.Everywhere.{every-at}
 use Rattle.calendar.specs.declared.Day.{Day}
 use Rattle.amounts.specs.Amounts.{mostRate}
@@ -13,7 +15,7 @@ use Rattle.rates.specs.declared.RateRow.{RateRow}
 use Rattle.rates.specs.declared.Rates.{Rates}
 use Rattle.rates.specs.declared.InForce.{InForce}
 use Rattle.rates.specs.declared.InForce.the-variants.{Since, Unset}
-use Rattle.rates.specs.Rows.{mostRows, startOf, holds, withRow, placeOf, noRow, noRates, listedRates, withRate, Apart}
+use Rattle.rates.specs.Rows.{mostRows, startOf, holds, withRow, placeOf, noRow, noRates, listedRates, withRate}
 use Rattle.rates.specs.Force.{hasStarted, inForce, isUnset, rateOf, ValidRates}
 use Rattle.rates.proofs.Placing.{held-place, new-place, held-length, new-length, every-with, apart-with, listed-length, listed-with, size-with}
 use Rattle.rates.proofs.Ruling.{started-set, others-set, set-later, force-with, in-force-greatest}
@@ -37,6 +39,14 @@ later-valid t u s h v = record {
   rates-most = v .rates-most;
   one-started = λ e. set-later t u (listedRates s) h (v .one-started e);
 }
+
+-- F7, Rates: if no row has started, at most 15 are held
+pub unstarted-few : (t : Day) (s : Rates) → ValidRates t s → isUnset (inForce t (listedRates s)) ≡ true → s .count < mostRows
+unstarted-few t s v none = by (below-or-not (s .count) mostRows)
+  where
+    by : (s .count < mostRows) ⊎ (mostRows ≤ s .count) → s .count < mostRows
+    by (inl h) = h
+    by (inr h) = absurd (never (sym (v .one-started (omega (arith, h, v .few))) ∙ none))
 
 -- the rate in force is not above 100
 pub force-most : (t : Day) (s : Rates) → ValidRates t s → rateOf (inForce t (listedRates s)) ≤ mostRate

@@ -1,13 +1,13 @@
 -- The refusals of Rate.
-use Prim.Native.Nat.{ℕ, _+_, _≤_, _<_}
+use Prim.Native.Nat.{ℕ, _+_, _≤_}
 use native.Mathlib.Omega.{arith}
-use mathlib.Core.Path.{_≡_, refl, sym, ap, _∙_}
-use mathlib.Core.Bool.{Bool, true, false, _||_, _&&_, not}
+use mathlib.Core.Path.{_≡_, refl, _∙_}
+use mathlib.Core.Bool.{true, false, _||_, _&&_, not}
 use mathlib.Core.List.{[]}
 use lib.Dec.{ltb, leb, eqb}
-use borrow.Author.Tests.{ltb-false, leb-false, lt-leb, leb-true, eq-eqb, lt-ltb, le-ltb}
+use borrow.Author.Tests.{ltb-false, leb-false, lt-leb, eq-eqb, lt-ltb, le-ltb}
 use Rattle.basics.specs.Refusals.{answer}
-use Rattle.basics.proofs.Cases.{never, or-false, and-no}
+use Rattle.basics.proofs.Cases.{or-false, and-no}
 use Rattle.basics.proofs.Refusals.{pass, passed, all-passed}
 use Rattle.calendar.specs.declared.Day.{Day}
 use Rattle.calendar.specs.Closed.{lastDay}
@@ -15,7 +15,7 @@ use Rattle.amounts.specs.Amounts.{mostRate}
 use Rattle.rates.specs.declared.Rates.{Rates}
 use Rattle.rates.specs.Rows.{mostRows, rowOf, holds, listedRates}
 use Rattle.rates.specs.Force.{hasStarted, inForce, isUnset, ValidRates}
-use Rattle.rates.proofs.Keeping.{Room}
+use Rattle.rates.proofs.Keeping.{unstarted-few, Room}
 use Rattle.refusals.specs.Calls.{badStart, lastKept, noPlace, rateRefusals}
 
 module _ (today : Day) (s : Rates) (start : Day) (rate : ℕ) where
@@ -60,11 +60,7 @@ today-taken today s v most rate h none =
   where
     -- 16 rows are not held, since then one would have started
     few : leb mostRows (s .count) ≡ false
-    few = by (leb mostRows (s .count)) refl
-      where
-        by : (b : Bool) → leb mostRows (s .count) ≡ b → b ≡ false
-        by true e = absurd (never (sym (v .one-started (omega (arith, leb-true mostRows (s .count) e, v .few))) ∙ none))
-        by false e = refl
+    few = lt-leb mostRows (s .count) (unstarted-few today s v none)
 
     free : (not (holds today (listedRates s)) && (leb mostRows (s .count) || (eqb (s .count + 1) mostRows && (ltb (today .0) (today .0) && isUnset (inForce today (listedRates s)))))) ≡ false
     free = rw (few, le-ltb (today .0) (today .0) (omega arith), and-no (eqb (s .count + 1) mostRows), and-no (not (holds today (listedRates s))))

@@ -2,7 +2,6 @@
 use Prim.Native.Nat.{_<_}
 use native.Mathlib.Omega.{arith}
 use mathlib.Core.Path.{sym, ap, subst⁻¹, _∙_}
-use borrow.Author.Needs.{needs}
 use Rattle.basics.proofs.Refusals.{refused-with, done-by}
 use Rattle.calendar.specs.declared.StoredDay.{StoredDay}
 use Rattle.rates.specs.declared.Rates.{Rates}

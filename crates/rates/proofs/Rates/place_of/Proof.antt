@@ -1,7 +1,7 @@
 -- `place_of` meets its contract. The place that is searched for is as far behind row i as it is in the rows from i on.
 use Prim.Native.Nat.{_+_, _-_, _≤_}
 use native.Mathlib.Omega.{arith}
-use mathlib.Core.Path.{_≡_, refl, sym, ap, _∙_}
+use mathlib.Core.Path.{_≡_, ap, _∙_}
 use lib.ListN.{length, take, drop}
 use Rattle.basics.proofs.Cases.{length-mapped}
 use Rattle.calendar.specs.declared.Day.{Day}
