@@ -1,5 +1,5 @@
--- What holds of a refused call and of one that is done holds of its outcome. The calls here go by the answer of a fetch or
--- by the next clearing day, and one that is done has found what it asked for.
+-- What holds of a refused call and of one that is done holds of its outcome. The calls here go by the answer of a fetch
+-- or by the next clearing day, and one that is done has found what it asked for.
 use Prim.Native.Nat.{ℕ, _≤_, _<_}
 use mathlib.Core.Path.{_≡_, refl, sym}
 use mathlib.Core.Bool.{false, false≢true}

@@ -1,5 +1,5 @@
--- F7 and F8, Rates: refusal 26 of Close cannot bring a book to a halt. If no row has started, a Rate for today is
--- accepted, and a Close is not refused by 26 once a row has started.
+-- F7 and F8, Rates: refusal 26 of Close cannot bring a book to a halt. If no row has started, a Rate for today with a
+-- rate up to 100 is accepted, and once a row has started a Close is not refused by 26.
 use Prim.Native.Nat.{ℕ, _≤_, _<_}
 use native.Mathlib.Omega.{arith}
 use mathlib.Core.Path.{_≡_, sym, ap, _∙_}
@@ -50,7 +50,7 @@ few-held b v none = unstarted-few (todayOf b) (b .rates) (v .rates) none
 pub rate-taken : (b : Book) → Valid b → isUnset (forceOf b) ≡ true → (rate : ℕ) → rate ≤ mostRate → rated b (todayOf b) rate .answer ≡ 0
 rate-taken b v none rate most = ap (λ (r : Done). r .answer) (sym (done b v none rate most))
 
--- F7, Rates: a Close after it is not refused by 26
+-- F7, Rates: a Close after such a Rate is not refused by 26
 pub rate-used : (b : Book) → Valid b → isUnset (forceOf b) ≡ true → (rate : ℕ) → rate ≤ mostRate →
     (price words : ℕ) → close (rated b (todayOf b) rate .book) price words .answer ≡ 26 → ⊥
 rate-used b v none rate most =

@@ -27,8 +27,8 @@ pub struct BookDay {
 }
 
 // The settlement-discipline book of one bond. The large arrays stand first and the small fields last, so that there is
-// no gap in front of an array; the compiler then copies only the arrays that a call changes. The rates are small too. They
-// come last, because in front of the setup they make a Close slower.
+// no gap in front of an array; the compiler then copies only the arrays that a call changes. The rates are small too.
+// They come last, because in front of the setup they make a Close slower.
 pub struct Book {
     pub legs: Legs,
     pub ledger: Ledger,

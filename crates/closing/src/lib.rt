@@ -25,7 +25,7 @@ ghost use Rattle.closing.specs.Stages.{penalised, noticeAt, boughtFrom, 
 ghost use Rattle.closing.specs.Close.{stages, closedLedger, closeLines};
 ghost use Rattle.closing.specs.Asked.{taken, Priced, Buys, ValidEnd, Closes, Closable, ClosedAs};
 
-// What a Close works with: the setup and the day of the book, and the price and the rate that it was given.
+// What a Close works with: the setup and the day of the book, the price that it was given, and the rate in force.
 pub struct DayEnd {
     pub setup: Setup,
     pub today: Day,

@@ -92,8 +92,8 @@ opening-accepted = refl
 abbrev sold : ℕ → ℕ → Book
 sold q a = bookAfter (begun opening .book) (fromStart 0 ∷ sale 0 1 q a)
 
--- The book of one obligation on a later day: today is that day, and this is the price of the Close at age = grace. The book
--- keeps the line of the latest Close, a penalty of 0 cents.
+-- The book of one obligation on a later day: today is that day, and this is the price of the Close at age = grace. The
+-- book keeps the line of the latest Close, a penalty of 0 cents.
 abbrev onDay : ℕ → ℕ → Book → Book
 onDay today gracePrice b =
     let o = obligationAt (b .ledger) 0 in
@@ -222,7 +222,8 @@ after-month = month-leaves closedOnce _ _ accepted-month
 pub example-11 : reprintPlayed ≡ accepted 5 ++ twoPenalties ++ (0 ∷ []) ++ twoPenalties
 example-11 = ap₂ reprinted (month-alone closedOnce ∙ ap (λ (n : ℕ). n ∷ []) accepted-month) after-month ∙ reprint-lines
 
--- X11, Settled examples: how many lines an Again gives, and the cents of the first two lines that then stand in its list
+-- X11, Settled examples: how many lines an Again gives, and the cents of the first two lines that then stand in its
+-- list
 abbrev pub countAndCents : Book → List ℕ
 countAndCents b =
     let words = againWords b (replicate fewestWords 0) in

@@ -1,4 +1,5 @@
--- The settled examples of docs/RULES.md, each as rows: its number there, what the definitions give, and what is settled.
+-- The settled examples of docs/RULES.md, each as rows: its number there, what the definitions give, and what is
+-- settled.
 use Prim.Native.Nat.{ℕ, _+_}
 use mathlib.Core.Bool.{Bool}
 use mathlib.Core.List.{List, [], _∷_, _++_}

@@ -37,8 +37,8 @@ use Rattle.journal.specs.Facts.{Instructed}
 use Rattle.journal.specs.Sums.{instructedIn, debtsIn}
 use Rattle.journal.specs.Promise.{StatusShows, AccountShows, LookShows, AgainShows, EveryMonth, EveryPenalty, EveryBuyIn, EveryCapPrice}
 
--- J1, Whole journals: a call on a book with any arguments and any lent lists, and what came of it. The result, and the lent
--- lists as the call ended, are any that the contract of the function allows.
+-- J1, Whole journals: a call on a book with any arguments and any lent lists, and what came of it. The result, and the
+-- lent lists as the call ended, are any that the contract of the function allows.
 pub data Called (b : Book) : Call → Outcome → Type 0 where
   entered : (member other side q a : ℕ) (j : Day) (r : Entered) (x : _) →
       code.enter.Reads.Learnt tt (b, (member, (other, (side, (q, (a, (j, tt))))))) r x → Called b (Call.enter member other side q a j) (ofEntered r)
@@ -112,8 +112,8 @@ SameAsEmpty b amounts = (payouts : List ℕ) (typed empty : Outcome) → Called 
 
 -- G3, Promises: what is promised of a run
 pub record Promise (s : Run) : Type 1 where
-  -- J3: each call, and the Open, is answered as the rules give it, with every word of its lent lists: all of this, and the
-  -- book, is worked out from the Open and the calls alone
+  -- J3: each call, and the Open, is answered as the rules give it, with every word of its lent lists: all of this, and
+  -- the book, is worked out from the Open and the calls alone
   pub answered : s ≡ played (s .opening) (callsOf (s .past))
   -- J10 and J15: Status, called after the list, of each obligation of the list
   pub status : (n : ℕ) (i : Instructed) → instructedIn n (s .past) ≡ some i → (t : Shown) → StatusCalled (s .book) n t →
@@ -127,8 +127,8 @@ pub record Promise (s : Run) : Type 1 where
   pub look : (m : ℕ) → m < memberCount → (t : Looked) → LookCalled (s .book) m t → LookShows (s .opening) (s .past) m t
   -- J16: Again, called after the list with any lent list, gives what the latest accepted Close gave
   pub again : (ws us : List ℕ) (t : Closed) → AgainCalled (s .book) ws t us → AgainShows (s .past) ws us t
-  -- L5 and N5: Status, Account, Look and Again, called after the list, return the book that they were given, whatever their
-  -- arguments and lent lists are
+  -- L5 and N5: Status, Account, Look and Again, called after the list, return the book that they were given, whatever
+  -- their arguments and lent lists are
   pub status-same : (n : ℕ) (t : Shown) → StatusCalled (s .book) n t → t .book ≡ s .book
   pub account-same : (m : ℕ) (t : Balance) → AccountCalled (s .book) m t → t .book ≡ s .book
   pub look-same : (m : ℕ) (t : Looked) → LookCalled (s .book) m t → t .book ≡ s .book
@@ -157,9 +157,9 @@ Gives n ps r ρ asked learnt = (w : World) (γ : Env) (k : Name) → γ k ≡ ρ
     Known (w .𝓤) (w .H) (w .𝓖 .A) (givenOf (w .𝓤) (w .H) (w .𝓜) (w .𝓖)) (Over (w .𝓤) (w .H) (w .𝓜) (w .𝓖) (w .𝓡) γ)
     n ps r asked learnt k
 
--- What is said of the code of a function. It meets its contract as it is written in the source. So where `Asked` holds of
--- the arguments, a call of the code ends, and `Learnt` holds of its result and lists: the steps of a run are what the code
--- gives.
+-- What is said of the code of a function. It meets its contract as it is written in the source. So where `Asked` holds
+-- of the arguments, a call of the code ends, and `Learnt` holds of its result and lists: the steps of a run are what
+-- the code gives.
 pub record Code (M : Type 1) (statement : Type 1 → Type 2) (n : ℕ) (ps : List (PK n)) (r : RK n) (ρ : Routine) (asked : In n ps) (learnt : Out n ps r) : Type 2 where
   pub met : statement M
   pub gives : Gives n ps r ρ asked learnt

@@ -1,4 +1,5 @@
--- What a call does: one record for all that is proved of it, and what holds of a call that changes legs or offers alone.
+-- What a call does: one record for all that is proved of it, and what holds of a call that changes legs or offers
+-- alone.
 use Prim.Native.Nat.{ℕ, _*_, _≤_, _<_}
 use native.Mathlib.Omega.{arith}
 use mathlib.Core.Path.{_≡_, refl, ap}
@@ -68,7 +69,8 @@ pub record Closes (b : Book) (f : Facts) (d : Ended) : Type 0 where
   pub on : nextDay b ≡ At next
   pub legs : f .legs ≡ neither
 
--- what is known of a call that was given a list of collected amounts: it was not refused, and its list ended as the payouts of the rules
+-- what is known of a call that was given a list of collected amounts: it was not refused, and its list ended as the
+-- payouts of the rules
 pub record Pays (b : Book) (cs words : List ℕ) : Type 0 where
   pub places : ℕ
   pub accepted : monthAnswer b cs places ≡ 0

@@ -1,5 +1,5 @@
--- At every accepted Close the penalties are those of its price and of the rate in force by the events: `known-penalised`.
--- After an accepted Close no Close of the book is refused by 26: `never-again-unset` at the end.
+-- At every accepted Close the penalties are those of its price and of the rate in force by the events:
+-- `known-penalised`. After an accepted Close no Close of the book is refused by 26: `never-again-unset` at the end.
 use Prim.Native.Nat.{ℕ, _≤_}
 use native.Mathlib.Omega.{arith}
 use mathlib.Core.Path.{_≡_, refl, sym, ap, ap₂, _∙_}

@@ -1,5 +1,5 @@
--- What every book remembers of its journal: `remembered`. Since it remembers its rates, refusal 26 of Close does not come
--- again after an accepted Close: `no-26-again` at the end.
+-- What every book remembers of its journal: `remembered`. Since it remembers its rates, refusal 26 of Close does not
+-- come again after an accepted Close: `no-26-again` at the end.
 use Prim.Native.Nat.{ℕ, _≤_, _<_}
 use native.Mathlib.Omega.{arith}
 use mathlib.Core.Path.{_≡_, refl, sym, ap, _∙_}
@@ -36,8 +36,8 @@ use Rattle.journal.proofs.Every.{entered-length, entered-at}
 use Rattle.journal.proofs.Recalling.{RunRecalls, known-recalls}
 use Rattle.journal.proofs.Fining.{force-is, never-again-unset}
 
--- Each thing that a book stores is what its Open and its events tell. The accounts and what is outstanding are those of the
--- promise.
+-- Each thing that a book stores is what its Open and its events tell. The accounts and what is outstanding are those of
+-- the promise.
 pub record Remembered (s : Run) : Type 0 where
   -- O5 and O6, Open: the closed days and the terms
   pub setup : s .book .setup ≡ setupIn (s .opening)

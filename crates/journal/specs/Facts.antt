@@ -84,9 +84,9 @@ priceOf (some d) = d .price
 
 -- ---- the facts of an event
 -- What an event says: what it does to the legs; which quantity of an obligation it moves to a part, apart from what its
--- lines say; whether it is member m's wish to cancel obligation n; the offers and the rates that it enters; how it ended
--- the day if it is a Close; and the list of collected amounts that it was given if it is a Month. Every sum and every
--- history takes its own from them.
+-- lines say; whether it is member m's wish to cancel obligation n; the offers and the rates that it enters; how it
+-- ended the day if it is a Close; and the list of collected amounts that it was given if it is a Month. Every sum and
+-- every history takes its own from them.
 pub record Facts : Type 0 where
   pub legs : LegChange
   pub moves : Part → ℕ → ℕ

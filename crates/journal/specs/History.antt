@@ -54,8 +54,8 @@ unfoldable pub ratesIn : List Event → List RateRow
 ratesIn [] = []
 ratesIn (e ∷ es) = facts e .rates ++ ratesIn es
 
--- J18, Whole journals: the row in force after these events: of the accepted Rates whose starting day is not after today,
--- the one with the greatest starting day, and the latest of those with this day
+-- J18, Whole journals: the row in force after these events: of the accepted Rates whose starting day is not after
+-- today, the one with the greatest starting day, and the latest of those with this day
 unfoldable pub forceIn : Opening → List Event → InForce
 forceIn o es = inForce (todayIn o es) (ratesIn es)
 

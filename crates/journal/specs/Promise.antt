@@ -157,6 +157,10 @@ abbrev pub BuysInTurn : Opening → List Event → List Line → Type 0
 BuysInTurn o earlier ls = (n : ℕ) (i : Instructed) → instructedIn n earlier ≡ some i → 0 < outstandingIn n i earlier →
     inBuyIn (termsIn o .grace .0) (lastIn o n i earlier) (ageIn o i earlier) ≡ true → BoughtInTurn earlier n (outstandingIn n i earlier) ls
 
+-- C7 and C8, Close: every accepted Close of a journal buys in from the offers in the order of C7
+abbrev pub EveryBuyIn : Opening → List Event → Type 0
+EveryBuyIn o es = EachEvent (λ e earlier. isEnd (facts e .ends) ≡ true → BuysInTurn o earlier (reported (facts e .ends))) es
+
 -- C4, Close; J18, Whole journals: an accepted Close at this price reported these lines. A row is in force by the events
 -- before it, and the cents of each penalty are those of its quantity, of the price and of the rate of this row.
 pub record PenaltiesBy (o : Opening) (earlier : List Event) (price : ℕ) (ls : List Line) : Type 0 where
@@ -164,10 +168,7 @@ pub record PenaltiesBy (o : Opening) (earlier : List Event) (price : ℕ) (ls : 
   pub in-force : forceIn o earlier ≡ Since row
   pub cents : Every (λ l. l .kind ≡ penaltyKind → l .cents ≡ penalty (l .quantity) price (row .rate)) ls
 
--- J18, Whole journals: the penalties of every accepted Close of a journal are those of its price and of the rate in force
+-- J18, Whole journals: the penalties of every accepted Close of a journal are those of its price and of the rate in
+-- force
 abbrev pub EveryPenalty : Opening → List Event → Type 0
 EveryPenalty o es = EachEvent (λ e earlier. (d : Ended) → facts e .ends ≡ some d → PenaltiesBy o earlier (d .price) (d .lines)) es
-
--- C7 and C8, Close: every accepted Close of a journal buys in from the offers in the order of C7
-abbrev pub EveryBuyIn : Opening → List Event → Type 0
-EveryBuyIn o es = EachEvent (λ e earlier. isEnd (facts e .ends) ≡ true → BuysInTurn o earlier (reported (facts e .ends))) es

@@ -158,8 +158,8 @@ force-with t x (r ∷ rs) = by (eqb (startOf r .0) (startOf x .0)) refl (force-w
     by true q f = sym (superseded t r x (inForce t rs) (eqb-true (startOf r .0) (startOf x .0) q))
     by false q f = ap (taken t r) f ∙ swapped t r x (inForce t rs) (eqb-false (startOf r .0) (startOf x .0) q)
 
--- F6, Rates; J18, Whole journals: the row in force among those that a book holds is the one in force among all that were
--- entered, the latest of which is at the head
+-- F6, Rates; J18, Whole journals: the row in force among those that a book holds is the one in force among all that
+-- were entered, the latest of which is at the head
 pub force-entered : (t : Day) (xs : List RateRow) → inForce t (enteredRows xs) ≡ inForce t xs
 unfolding inForce enteredRows
 force-entered t [] = refl
@@ -177,8 +177,8 @@ none-started t (r ∷ rs) e = by (hasStarted t r) refl e (none-started t rs)
     by true q z f = absurd (never (sym (later-set r (inForce t rs)) ∙ ap isUnset z))
     by false q z f = Every.also q (f z)
 
--- F6, Rates; J18, Whole journals: a row that is in force has started, no row that has started has a greater starting day,
--- and it is the first of the list with its starting day
+-- F6, Rates; J18, Whole journals: a row that is in force has started, no row that has started has a greater starting
+-- day, and it is the first of the list with its starting day
 pub record Greatest (t : Day) (rs : List RateRow) (r : RateRow) : Type 0 where
   pub index : ℕ
   pub within : index < length rs

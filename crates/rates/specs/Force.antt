@@ -25,9 +25,9 @@ unfoldable pub orLater : RateRow → InForce → InForce
 orLater r Unset = Since r
 orLater r (Since s) = pick (ltb (startOf r .0) (startOf s .0)) (Since s) (Since r)
 
--- F6, Rates; J18, Whole journals: of the rows that have started, the one with the greatest starting day. If several have
--- it, it is the first of them in the list. A book holds no two rows with the same starting day (F2), and the events of a
--- journal are listed with the latest first.
+-- F6, Rates; J18, Whole journals: of the rows that have started, the one with the greatest starting day. If several
+-- have it, it is the first of them in the list. A book holds no two rows with the same starting day (F2), and the
+-- events of a journal are listed with the latest first.
 unfoldable pub inForce : Day → List RateRow → InForce
 inForce today [] = Unset
 inForce today (r ∷ rs) = pick (hasStarted today r) (orLater r (inForce today rs)) (inForce today rs)

@@ -1,6 +1,6 @@
 -- The refusals of Enter, Cancel, Deliver, Offer, Rate, Close and Again: by what the call is given, on the obligation
--- that was fetched, by the rates of the book, and by the next clearing day. This file also has the outcome of a call that names an obligation, and the
--- condition on the first day of an Open.
+-- that was fetched, by the rates of the book, and by the next clearing day. This file also has the outcome of a call
+-- that names an obligation, and the condition on the first day of an Open.
 use Prim.Native.Nat.{ℕ, _+_}
 use mathlib.Core.Bool.{Bool, true, false, _||_, _&&_, not}
 use mathlib.Core.List.{List, [], _∷_, _++_}

@@ -1,6 +1,7 @@
 // The refusals of Enter, Cancel, Deliver, Offer, Rate, Close and Again that need no book: from the input, on the
-// obligation that was fetched, and by the rates. A function `.._answer` gives the answer number of all refusals of its call, `.._answer_in` that of
-// those from its input, and `.._answer_of` that of those on the obligation; it is 0 if none holds.
+// obligation that was fetched, and by the rates. A function `.._answer` gives the answer number of all refusals of its
+// call, `.._answer_in` that of those from its input, and `.._answer_of` that of those on the obligation; it is 0 if
+// none holds.
 use amounts::MOST_AMOUNT;
 use amounts::MOST_CLOSE_PRICE;
 use amounts::MOST_OFFER_PRICE;
