@@ -160,11 +160,11 @@ module _ (b : Book) (v : Valid b) (d : DayEnd) (e : Ends b d) where
 
 -- ---- the answer of a Close and the words of its list
 -- refused by n: the same book and the same words
-pub refused-end : (b : Book) → Valid b → (price n : ℕ) (ws : List ℕ) → closeAnswer b price (length ws) ≡ n → (n ≡ 0 → ⊥) →
-    (closeRefused b n ≡ close b price (length ws)) × ((ws ≡ closeWords b price ws) × Valid b)
+pub refused-end : (b : Book) → Valid b → (price n : ℕ) (ws : List ℕ) (r : Closed) → r ≡ closeRefused b n → closeAnswer b price (length ws) ≡ n → (n ≡ 0 → ⊥) →
+    (r ≡ close b price (length ws)) × ((ws ≡ closeWords b price ws) × Valid (r .book))
 unfolding close closeBy closeWords
-refused-end b v price n ws e z =
-    (by (nextDay b) e, (refused-with n (closeRefusals price (length ws) (nextDay b) (forceOf b)) _ (λ k. ws) e z, v))
+refused-end b v price n ws r same e z =
+    (same ∙ by (nextDay b) e, (refused-with n (closeRefusals price (length ws) (nextDay b) (forceOf b)) _ (λ k. ws) e z, subst⁻¹ (λ (x : Closed). Valid (x .book)) same v))
   where
     by : (t : NextDay) → answer (closeRefusals price (length ws) t (forceOf b)) ≡ n → closeRefused b n ≡ closeBy b price (length ws) t
     by Never e = ap (closeRefused b) (sym e)

@@ -54,11 +54,16 @@ same-end c =
 close-answer-in-requires : tie.Need-close-answer-in-requires
 close-answer-in-requires c κs = search needs
 
+leaves-open-requires : tie.Need-leaves-open-requires
+leaves-open-requires c κs = search needs
+
 returns : tie.Need-returns
 returns c =
-    let s = c .before .before .before in
+    let input = c .before in
+    let s = input .before .before .before in
     let a = s .args in
-    refused-end (a .self) (s .pre) (a .price) _ (a .lines .now) (close-refused _ _ _ _ _ (sym (c .before .close-answer-in .ensures)) (c .if1 .taken)) (c .if1 .taken)
+    refused-end (a .self) (s .pre) (a .price) _ (a .lines .now) _ (c .leaves-open .ensures)
+    (close-refused _ _ _ _ _ (sym (input .before .close-answer-in .ensures)) (input .if1 .taken)) (input .if1 .taken)
 
 next-after-requires : tie.Need-next-after-requires
 next-after-requires c κs = search needs
@@ -69,13 +74,17 @@ enum-known-next c = search needs
 enum-told : tie.Need-enum-told
 enum-told c = search needs
 
+leaves-open-requires-2 : tie.Need-leaves-open-requires-2
+leaves-open-requires-2 c κs = search needs
+
 returns-2 : tie.Need-returns-2
 returns-2 c =
-    let input = c .before .before .before .before .before .before in
+    let none = c .before in
+    let input = none .before .before .before .before .before .before in
     let s = start input in
     let a = s .args in
-    refused-end (a .self) (s .pre) (a .price) 20 (a .lines .now)
-    (close-never _ _ _ _ (sym (c .before .before .next-after .ensures) ∙ c .enum-told .given .1) (passes input))
+    refused-end (a .self) (s .pre) (a .price) 20 (a .lines .now) _ (c .leaves-open2 .ensures)
+    (close-never _ _ _ _ (sym (none .before .before .next-after .ensures) ∙ none .enum-told .given .1) (passes input))
     (λ z. absurd (omega arith))
 
 in-force-requires : tie.Need-in-force-requires
@@ -87,13 +96,17 @@ enum-known-row c = search needs
 enum-told-2 : tie.Need-enum-told-2
 enum-told-2 c = search needs
 
+leaves-open-requires-3 : tie.Need-leaves-open-requires-3
+leaves-open-requires-3 c κs = search needs
+
 returns-3 : tie.Need-returns-3
 returns-3 c =
-    let next = c .before .before .before .before in
+    let none = c .before in
+    let next = none .before .before .before .before in
     let s = start (given next) in
     let a = s .args in
-    refused-end (a .self) (s .pre) (a .price) 26 (a .lines .now)
-    (close-unset _ _ _ _ _ (next-day next) (sym (c .before .before .in-force .ensures) ∙ c .enum-told2 .given .1) (passes (given next)))
+    refused-end (a .self) (s .pre) (a .price) 26 (a .lines .now) _ (c .leaves-open3 .ensures)
+    (close-unset _ _ _ _ _ (next-day next) (sym (none .before .before .in-force .ensures) ∙ none .enum-told2 .given .1) (passes (given next)))
     (λ z. absurd (omega arith))
 
 cast-t19 : tie.Need-cast-t19
@@ -129,14 +142,17 @@ close-spec =
     tie.close
     (tie.spec
     close-answer-in-requires
+    leaves-open-requires
     returns
     next-after-requires
     enum-known-next
     enum-told
+    leaves-open-requires-2
     returns-2
     in-force-requires
     enum-known-row
     enum-told-2
+    leaves-open-requires-3
     returns-3
     cast-t19
     close-requires
