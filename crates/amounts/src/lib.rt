@@ -1,6 +1,7 @@
 // Money: values, penalties, compensation, cash for a part, charges, the matching tolerance, the cap, and quotients of
 // products. All amounts are cents. The `requires` clauses state the limits of refusals 2 and 3, within which nothing
 // overflows.
+#![tactic(auto)]
 ghost use Rattle.std.specs.Prelude.{◌≡◌, ◌+◌, ◌-◌, ◌*◌, ◌/◌, ◌≤◌, ◌<◌, ◌^◌};
 ghost use Rattle.amounts.specs.Amounts.{most_quantity, most_amount, most_close_price, most_offer_price, most_rate, value, penalty, compensation, due_for, cash, charge, tolerance, amounts_match, above_cap};
 ghost use Rattle.amounts.specs.Quotients.{rounded, divided, Part};
@@ -36,7 +37,7 @@ const CAP_HUNDREDTHS: u64 = 108;
 const BASE: u64 = 32_768;
 
 // A quotient and its remainder.
-#[derive(Drop)]
+#[derive(Clone, Copy)]
 pub struct Divided {
     pub quotient: u64,
     pub remainder: u64,

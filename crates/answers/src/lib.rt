@@ -1,4 +1,5 @@
 // The answers to the lines of a journal, and how each is written as text.
+#![tactic(auto)]
 ghost use Rattle.std.specs.Prelude.{◌+◌, ◌*◌, ◌≤◌, ◌≡◌, length, take, drop};
 ghost use Rattle.writing.specs.Answers.{Wrote};
 ghost use Rattle.answers.specs.Told.{most_shown, told, nothing, no_call, numbers_told, balance_told, closed_told, words_told};
@@ -8,7 +9,7 @@ ghost use Rattle.answers.specs.Text.{kept_text, closed_text, words_text, answer_
 use writing::{LINE_FEED, SPACE};
 
 // What the answer to a line looks like.
-#[derive(Drop)]
+#[derive(Clone, Copy)]
 pub enum Form {
     // There is no answer, as to a comment.
     Nothing,
@@ -33,7 +34,7 @@ pub const MOST_SHOWN: usize = 7;
 // The answer to a line. It has a form, numbers of which the first `count` are shown, and signed cents. Where words were
 // lent, it also says how many of them there are. For a Close or an Again it says how many lines of six words stand in
 // them, and with what value they were filled.
-#[derive(Drop)]
+#[derive(Clone, Copy)]
 pub struct Answer {
     pub form: Form,
     pub numbers: [u64; MOST_SHOWN],

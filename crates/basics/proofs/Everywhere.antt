@@ -42,5 +42,6 @@ every_set (also p ps) (suc n) v q = also p (every_set ps n v q)
 
 -- what holds of every element holds of each member
 pub every_member : {A : Type 0} (P : A → Type 0) {x : A} {xs : List A} → Every P xs → Memᴰ x xs → P x
+every_member P nobody m = elim m [ ]
 every_member P (also p ps) (Memᴰ.head e) = subst P (sym e) p
 every_member P (also p ps) (Memᴰ.tail m) = every_member P ps m

@@ -136,6 +136,7 @@ Rising rs = Sorted (λ r s. r.number < s.number) rs
 smallest_given : (rs : List Refusal) (n : ℕ) → Rising rs → (it : Refusal) → Memᴰ it rs → it.number ≡ n → it.holds ≡ true →
     Every (λ r. r.number < n → r.holds ≡ false) rs → answer rs ≡ n
 unfolding answer
+smallest_given [] n s it m en eh l = elim m [ ]
 smallest_given (r ∷ rs) n (ahead a s) it (Memᴰ.head e) en eh l = rw (sym (ap (λ (x : Refusal). x.holds) e) ∙ eh) (sym (ap (λ (x : Refusal). x.number) e) ∙ en)
 smallest_given (r ∷ rs) n (ahead a s) it (Memᴰ.tail m) en eh (also l ls) =
     let h : r.number < it.number = every_member (λ (x : Refusal). r.number < x.number) a m in

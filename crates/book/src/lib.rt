@@ -1,5 +1,6 @@
 // The book of one bond and its calls. Every call takes the book and hands it back in an answer struct, with the answer
 // number (0 is done) and the results; a refused call hands back its number, zeros and the same book.
+#![tactic(auto)]
 use calendar::Day;
 use instructions::Legs;
 use ledger::{Ledger, Parts, Setup};
@@ -16,7 +17,7 @@ mod rating;
 mod showing;
 
 // What the days have brought: the day that it is, and which Closes there were.
-#[derive(Drop)]
+#[derive(Clone, Copy)]
 pub struct BookDay {
     pub today: Day,
     // Whether a Close was accepted since Open or the last accepted Month.
@@ -28,7 +29,7 @@ pub struct BookDay {
 // The settlement-discipline book of one bond. The large arrays stand first and the small fields last, so that there is
 // no gap in front of an array; the compiler then copies only the arrays that a call changes. The rates are small too.
 // They come last, because in front of the setup they make a Close slower.
-#[derive(Drop)]
+#[derive(Clone, Copy)]
 pub struct Book {
     pub legs: Legs,
     pub ledger: Ledger,
@@ -40,14 +41,14 @@ pub struct Book {
 }
 
 // The answer of Open.
-#[derive(Drop)]
+#[derive(Clone, Copy)]
 pub struct Opened {
     pub answer: u64,
     pub book: Book,
 }
 
 // The answer of Enter: the leg's number, and the obligation's plus 1, or 0.
-#[derive(Drop)]
+#[derive(Clone, Copy)]
 pub struct Entered {
     pub answer: u64,
     pub leg: u64,
@@ -56,14 +57,14 @@ pub struct Entered {
 }
 
 // The answer of Withdraw, of Offer, of Rate and of Month.
-#[derive(Drop)]
+#[derive(Clone, Copy)]
 pub struct Done {
     pub answer: u64,
     pub book: Book,
 }
 
 // The answer of Cancel: the quantity moved.
-#[derive(Drop)]
+#[derive(Clone, Copy)]
 pub struct Cancelled {
     pub answer: u64,
     pub moved: u64,
@@ -71,7 +72,7 @@ pub struct Cancelled {
 }
 
 // The answer of Deliver: the cash.
-#[derive(Drop)]
+#[derive(Clone, Copy)]
 pub struct Delivered {
     pub answer: u64,
     pub cash: u64,
@@ -79,7 +80,7 @@ pub struct Delivered {
 }
 
 // The answer of Close and of Again: the number of lines.
-#[derive(Drop)]
+#[derive(Clone, Copy)]
 pub struct Closed {
     pub answer: u64,
     pub count: usize,
@@ -87,7 +88,7 @@ pub struct Closed {
 }
 
 // The answer of Status: the instructed quantity and its parts.
-#[derive(Drop)]
+#[derive(Clone, Copy)]
 pub struct Shown {
     pub answer: u64,
     pub quantity: u64,
@@ -96,7 +97,7 @@ pub struct Shown {
 }
 
 // The answer of Account: the signed cents.
-#[derive(Drop)]
+#[derive(Clone, Copy)]
 pub struct Balance {
     pub answer: u64,
     pub cents: i64,
@@ -104,7 +105,7 @@ pub struct Balance {
 }
 
 // The answer of Look: the number plus 1 of a late obligation, or 0.
-#[derive(Drop)]
+#[derive(Clone, Copy)]
 pub struct Looked {
     pub answer: u64,
     pub obligation: u64,

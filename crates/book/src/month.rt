@@ -13,7 +13,6 @@ impl Book {
         ensures value { result ≡ month self collected.now (length payouts.old) }
         ensures payouts_after { payouts.new ≡ month_words self collected.now payouts.old }
         ensures valid { Valid result.book }
-        ensures collected_value { collected.now ≡ collected.now }
     {
         let ledger = self.ledger;
         let accounts = ledger.accounts;

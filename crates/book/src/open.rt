@@ -62,7 +62,6 @@ impl Book {
     pub fn open(first: Day, closed: &[u64], terms: u64) -> Opened
         ensures value { result ≡ opened first closed.now terms }
         ensures valid { Valid result.book }
-        ensures closed_value { closed.now ≡ closed.now }
     {
         if 1 < terms {
             return Opened {

@@ -1,5 +1,6 @@
 // The calendar: days, the book's closed days, clearing days, and ages counted in them. A calendar day and a count of
 // clearing days are two types, and only the functions of this crate lead from one to the other.
+#![tactic(auto)]
 ghost use Rattle.std.specs.Prelude.{◌≡◌, ◌≤◌, length};
 ghost use Rattle.calendar.specs.Closed.{stored_day, day_of, last_day, most_closed, rises_from, closed_refused, closed_days, listed_days, Rises, among};
 ghost use Rattle.calendar.specs.Days.{clearing, next_after, nth_after, age_at, weekdays_to, takes_away, closed_between};
@@ -11,26 +12,26 @@ pub const LAST_DAY: u64 = 65_535;
 pub const MOST_CLOSED: usize = 64;
 
 // A calendar day by its number; day 0 is Saturday 1 January 2000.
-#[derive(Drop)]
+#[derive(Clone, Copy)]
 pub struct Day(pub u64);
 
 // A calendar day as a book stores it, in two bytes. It is turned into a `Day` before it is compared with one.
-#[derive(Drop)]
+#[derive(Clone, Copy)]
 pub struct StoredDay(pub u16);
 
 // A count of clearing days, or an age.
-#[derive(Drop)]
+#[derive(Clone, Copy)]
 pub struct ClearingDays(pub u64);
 
 // A clearing day that was looked for: the day, or none up to the last day of the calendar.
-#[derive(Drop)]
+#[derive(Clone, Copy)]
 pub enum NextDay {
     At(Day),
     Never,
 }
 
 // The book's closed days: the first `count` places of `days`. The places after them are free.
-#[derive(Drop)]
+#[derive(Clone, Copy)]
 pub struct ClosedDays {
     pub days: [Day; MOST_CLOSED],
     pub count: usize,
@@ -55,8 +56,7 @@ fn is_rising(days: &[u64]) -> bool
 
 // Whether a list of closed days is refused.
 pub fn refuses_closed(days: &[u64]) -> bool
-    ensures value { result ≡ closed_refused days.now }
-    ensures days_value { days.now ≡ days.now }
+    ensures { result ≡ closed_refused days.now }
 {
     MOST_CLOSED < days.len() || !is_rising(days)
 }
@@ -103,8 +103,7 @@ impl ClosedDays {
     // The closed days of a list.
     pub fn of(list: &[u64]) -> ClosedDays
         requires { length list.now ≤ most_closed }
-        ensures value { result ≡ closed_days list.now }
-        ensures list_value { list.now ≡ list.now }
+        ensures { result ≡ closed_days list.now }
     {
         let mut days = [Day(0); MOST_CLOSED];
         let mut i = 0;

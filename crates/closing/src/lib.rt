@@ -1,4 +1,5 @@
 // The end of a day: what a Close does to each obligation and to the accounts, and the lines that it reports.
+#![tactic(auto)]
 ghost use Rattle.std.specs.Prelude.{◌≡◌, ◌+◌, ◌*◌, ◌≤◌, length};
 ghost use Rattle.std.proofs.lemmas.List.Edits.{sets};
 ghost use Rattle.amounts.specs.Amounts.{most_close_price, most_offer_price};
@@ -17,7 +18,7 @@ use ledger::{Ledger, Obligation, Part, Setup, Terms, WORDS_IN_LINE};
 use offers::{BuyIn, Given, Offers};
 
 // What a Close works with: the setup and the day of the book, the price that it was given, and the rate in force.
-#[derive(Drop)]
+#[derive(Clone, Copy)]
 pub struct DayEnd {
     pub setup: Setup,
     pub today: Day,
@@ -26,7 +27,7 @@ pub struct DayEnd {
 }
 
 // What a Close does to an obligation beside its penalty.
-#[derive(Drop)]
+#[derive(Clone, Copy)]
 pub struct Measures {
     pub notice: bool,
     pub buy_in: bool,
@@ -43,7 +44,7 @@ pub const BOUGHT: u64 = 3;
 pub const COMPENSATION: u64 = 4;
 
 // A line of a Close.
-#[derive(Drop)]
+#[derive(Clone, Copy)]
 pub struct Line {
     pub kind: u64,
     pub obligation: u64,
@@ -54,14 +55,14 @@ pub struct Line {
 }
 
 // An obligation in the course of its Close, and how many lines there are so far.
-#[derive(Drop)]
+#[derive(Clone, Copy)]
 pub struct Closing {
     pub obligation: Obligation,
     pub count: usize,
 }
 
 // The ledger after a Close, and how many lines it reported.
-#[derive(Drop)]
+#[derive(Clone, Copy)]
 pub struct ClosedLedger {
     pub ledger: Ledger,
     pub count: usize,

@@ -1,5 +1,6 @@
 // Puts the settled examples of docs/RULES.md through the code and prints each answer beside the settled one. That none
 // differs is proved, and the output shows it.
+#![tactic(auto)]
 use calendar::{ClearingDays, ClosedDays, Day, NextDay};
 use libc::STDOUT_FILENO;
 use offers::{Offer, Offers};

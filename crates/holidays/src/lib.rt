@@ -1,5 +1,6 @@
 // The closed days of TARGET. A book is opened with a list of closed days, and the call Target writes this list for a
 // few years. It takes no book.
+#![tactic(auto)]
 ghost use Rattle.std.specs.Prelude.{◌≡◌, ◌+◌, ◌*◌, ◌≤◌, length};
 ghost use Rattle.std.proofs.lemmas.List.Edits.{sets};
 ghost use Rattle.basics.specs.Lists.{at_front};
@@ -24,7 +25,7 @@ const MOST_YEARS: u64 = 8;
 const CLOSED_IN_YEAR: usize = 6;
 
 // The answer of Target.
-#[derive(Drop)]
+#[derive(Clone, Copy)]
 pub struct DaysWritten {
     pub answer: u64,
     // How many days were written.

@@ -1,4 +1,5 @@
 // Instructions: the legs that members enter, and the search for the leg that a new one matches.
+#![tactic(auto)]
 ghost use Rattle.std.specs.Prelude.{◌≡◌, ◌≤◌, ◌<◌};
 ghost use Rattle.instructions.specs.Legs.{most_legs, is_waiting, leg_of, Fitting, no_legs, in_state, fetched_leg, with_state};
 ghost use Rattle.instructions.specs.Match.{delivering, receiving, members_cross, same_business, fits, lowest_fit};
@@ -11,7 +12,7 @@ pub const MOST_LEGS: usize = 128;
 
 // What has become of a leg. A matched leg names its obligation. Withdrawn comes first, because a place that no leg has
 // taken holds it.
-#[derive(Drop)]
+#[derive(Clone, Copy)]
 pub enum LegState {
     Withdrawn,
     Waiting,
@@ -19,7 +20,7 @@ pub enum LegState {
 }
 
 // What an Enter asks. Its numbers may be any.
-#[derive(Drop)]
+#[derive(Clone, Copy)]
 pub struct Instruction {
     pub member: u64,
     pub other: u64,
@@ -31,7 +32,7 @@ pub struct Instruction {
 
 // One member's instruction, as the book keeps it. Side 0 delivers, side 1 receives. Its fields are narrow, because the
 // book holds 128 of these and is copied at every call.
-#[derive(Drop)]
+#[derive(Clone, Copy)]
 pub struct Leg {
     pub amount: u64,
     pub day: Day,
@@ -43,28 +44,28 @@ pub struct Leg {
 }
 
 // The legs that were entered, numbered from 0: the first count rows.
-#[derive(Drop)]
+#[derive(Clone, Copy)]
 pub struct Legs {
     pub rows: [Leg; MOST_LEGS],
     pub count: usize,
 }
 
 // The answer to a number that names a leg.
-#[derive(Drop)]
+#[derive(Clone, Copy)]
 pub enum FetchedLeg {
     Found(Leg),
     Absent,
 }
 
 // The leg that a new one matches, by its number, if there is one.
-#[derive(Drop)]
+#[derive(Clone, Copy)]
 pub enum Fit {
     With(u64),
     Nobody,
 }
 
 // What an Enter comes to: it is refused, its leg finds no match and waits, or its leg matches the leg with a number.
-#[derive(Drop)]
+#[derive(Clone, Copy)]
 pub enum Entry {
     Refused,
     Alone(Leg),

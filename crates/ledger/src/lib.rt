@@ -1,5 +1,6 @@
 // The ledger: obligations with their parts, the day's offers and the members' accounts, and what a delivery and a wish
 // to cancel do to an obligation.
+#![tactic(auto)]
 ghost use Rattle.std.specs.Prelude.{◌≡◌, ◌+◌, ◌≤◌, ◌<◌};
 ghost use Rattle.amounts.specs.Amounts.{most_quantity, most_close_price};
 ghost use Rattle.ledger.specs.Setup.{ValidTerms};
@@ -33,7 +34,7 @@ pub const MOST_SUPPLIER: u64 = 999;
 
 // The stages of an obligation's life: at which age notice is given, after which age the house buys in, and the age of
 // the last day.
-#[derive(Drop)]
+#[derive(Clone, Copy)]
 pub struct Terms {
     pub notice: ClearingDays,
     pub grace: ClearingDays,
@@ -41,14 +42,14 @@ pub struct Terms {
 }
 
 // What a book keeps to from its Open on: its closed days and the terms of its stages.
-#[derive(Drop)]
+#[derive(Clone, Copy)]
 pub struct Setup {
     pub closed_days: ClosedDays,
     pub terms: Terms,
 }
 
 // What can become of a quantity that was outstanding.
-#[derive(Drop)]
+#[derive(Clone, Copy)]
 pub enum Part {
     Delivered,
     BoughtIn,
@@ -57,7 +58,7 @@ pub enum Part {
 }
 
 // What has become of an obligation's quantity so far. The five add up to it.
-#[derive(Drop)]
+#[derive(Clone, Copy)]
 pub struct Parts {
     pub delivered: u32,
     pub bought_in: u32,
@@ -67,7 +68,7 @@ pub struct Parts {
 }
 
 // What was agreed: a seller owes a buyer a quantity against an amount on a settlement day, which docs/RULES.md calls J.
-#[derive(Drop)]
+#[derive(Clone, Copy)]
 pub struct Deal {
     pub amount: u64,
     pub day: Day,
@@ -77,14 +78,14 @@ pub struct Deal {
 }
 
 // How far an obligation has come in its stages.
-#[derive(Drop)]
+#[derive(Clone, Copy)]
 pub struct Stage {
     // The price of the Close at age = grace; 0 before it.
     pub grace_price: u32,
 }
 
 // Which parties wish to cancel.
-#[derive(Drop)]
+#[derive(Clone, Copy)]
 pub struct Wishes {
     pub seller: bool,
     pub buyer: bool,
@@ -92,7 +93,7 @@ pub struct Wishes {
 
 // A deal with what has become of it. Its fields are narrow, because the book holds 64 of these and is copied at every
 // call.
-#[derive(Drop)]
+#[derive(Clone, Copy)]
 pub struct Obligation {
     pub deal: Deal,
     pub parts: Parts,
@@ -101,14 +102,14 @@ pub struct Obligation {
 }
 
 // The two sides of a penalty: the member that it is debited to, and the member that it is credited to.
-#[derive(Drop)]
+#[derive(Clone, Copy)]
 pub struct Sides {
     pub debtor: u8,
     pub creditor: u8,
 }
 
 // The answer to a number that names an obligation.
-#[derive(Drop)]
+#[derive(Clone, Copy)]
 pub enum Fetched {
     Found(Obligation),
     Absent,
@@ -116,7 +117,7 @@ pub enum Fetched {
 
 // What a call comes to on the obligation that it names: its answer number, its result, and the obligation as it is
 // then. A refused call has the result 0, and its obligation is not used.
-#[derive(Drop)]
+#[derive(Clone, Copy)]
 pub struct Change {
     pub answer: u64,
     pub result: u64,
@@ -124,7 +125,7 @@ pub struct Change {
 }
 
 // The obligations, numbered from 0 (the first count of them), the offers of today and the accounts.
-#[derive(Drop)]
+#[derive(Clone, Copy)]
 pub struct Ledger {
     pub obligations: [Obligation; MOST_OBLIGATIONS],
     pub count: usize,

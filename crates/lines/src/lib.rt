@@ -1,5 +1,6 @@
 // The input, line by line. The bytes that were read are taken up to the next line feed, and those of the current line
 // are held in a buffer until the line has ended.
+#![tactic(auto)]
 ghost use Rattle.std.specs.Prelude.{◌≡◌, ◌+◌, ◌≤◌, min, ◌-◌, length};
 ghost use Rattle.std.proofs.lemmas.List.Edits.{sets};
 ghost use Rattle.basics.specs.Lists.{between};
@@ -8,7 +9,7 @@ ghost use Rattle.lines.specs.Input.{at_start, used_up, filled_to, dropped_from, 
 use writing::LINE_FEED;
 
 // Where the input stands: which bytes were read and not yet taken, and how far the current line has come.
-#[derive(Drop)]
+#[derive(Clone, Copy)]
 pub struct Feed {
     // The bytes that were read and not yet taken stand in the places from `from` up to `to`, without `to`.
     pub from: usize,
@@ -20,7 +21,7 @@ pub struct Feed {
 }
 
 // What was taken from the input, and where the input stands then.
-#[derive(Drop)]
+#[derive(Clone, Copy)]
 pub struct Taken {
     pub feed: Feed,
     // Whether the current line has ended, and how many bytes of it are held if it has.

@@ -1,5 +1,6 @@
 // The members' accounts: a penalty that passes from one to another, what each account claims and owes, and how the sum
 // collected in a month is shared.
+#![tactic(auto)]
 ghost use Rattle.std.specs.Prelude.{◌≡◌, ◌*◌, ◌≤◌, ◌<◌, ◌^◌, length, get_or, nat_abs};
 ghost use Rattle.basics.specs.Lists.{sum};
 ghost use Rattle.amounts.specs.Quotients.{divided};
@@ -17,7 +18,7 @@ pub const MEMBER_COUNT: usize = 32;
 pub const LAST_MEMBER: u64 = MEMBER_COUNT as u64 - 1;
 
 // What the code computes before any share: each member's share rounded down, each remainder, and the cents left.
-#[derive(Drop)]
+#[derive(Clone, Copy)]
 struct Portions {
     floors: [u64; MEMBER_COUNT],
     remainders: [u64; MEMBER_COUNT],

@@ -1,4 +1,5 @@
 // The day's offers, which are kept in the order of the auction, and the pass of a buy-in over them.
+#![tactic(auto)]
 ghost use Rattle.std.specs.Prelude.{◌≡◌, ◌||◌, ◌≤◌, ◌<◌, min, eqb};
 ghost use Rattle.basics.specs.Choice.{pick};
 ghost use Rattle.offers.specs.Rank.{overtakes};
@@ -10,7 +11,7 @@ pub const MOST_OFFERS: usize = 64;
 
 // A supplier's offer for one obligation. Its fields are narrow, because the book holds 64 of these and is copied at
 // every call, and there is no gap between two offers.
-#[derive(Drop)]
+#[derive(Clone, Copy)]
 pub struct Offer {
     pub obligation: u16,
     pub supplier: u16,
@@ -19,21 +20,21 @@ pub struct Offer {
 }
 
 // The offers of today, in the order of the auction. They are the first count rows.
-#[derive(Drop)]
+#[derive(Clone, Copy)]
 pub struct Offers {
     pub rows: [Offer; MOST_OFFERS],
     pub count: usize,
 }
 
 // The quantity that an offer gives.
-#[derive(Drop)]
+#[derive(Clone, Copy)]
 pub struct Given {
     pub offer: Offer,
     pub quantity: u32,
 }
 
 // What the offers for one obligation give, in the order of the auction. It is in the first count places.
-#[derive(Drop)]
+#[derive(Clone, Copy)]
 pub struct BuyIn {
     pub given: [Given; MOST_OFFERS],
     pub count: usize,

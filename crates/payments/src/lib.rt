@@ -1,4 +1,5 @@
 // Month: what is collected from the members that owe, and paid out to those that claim.
+#![tactic(auto)]
 ghost use Rattle.std.specs.Prelude.{◌≡◌, ◌<◌, false, length, get_or, pos};
 ghost use Rattle.netting.specs.Accounts.{member_count, debts, Bounded, balance};
 ghost use Rattle.payments.specs.Month.{bad_amounts, bad_lists, over_collected, amounts_paid, month_answer_by, paid_out};
@@ -22,8 +23,7 @@ fn are_bad_lists(collected: usize, places: usize) -> bool
 // Returns what a member paid: its amount in the list, or what it owes if the list is empty.
 fn amount_of(accounts: [i64; MEMBER_COUNT], list: &[u64], m: usize) -> u64
     requires { (Bounded accounts) × (m < member_count) × (bad_amounts (length list.now) ≡ false) }
-    ensures value { result ≡ get_or (amounts_paid (debts accounts) list.now) m 0 }
-    ensures list_value { list.now ≡ list.now }
+    ensures { result ≡ get_or (amounts_paid (debts accounts) list.now) m 0 }
 {
     if list.len() == 0 {
         let account = accounts[m];
@@ -85,7 +85,6 @@ pub fn settle_month(
     requires { (Bounded accounts) × (balance accounts ≡ pos 0) }
     ensures value { result ≡ month_answer_by accounts since collected.now (length places.old) }
     ensures places_after { places.new ≡ paid_out accounts since collected.now places.old }
-    ensures collected_value { collected.now ≡ collected.now }
 {
     if are_bad_lists(collected.len(), places.len()) {
         return 5;

@@ -1,4 +1,5 @@
 // The rates of a book with their starting days, and which of them is in force on a day.
+#![tactic(auto)]
 ghost use Rattle.std.specs.Prelude.{◌≡◌, ◌≤◌, ◌<◌};
 ghost use Rattle.rates.specs.Rows.{most_rows, start_of, holds, place_of, no_rates, listed_rates, with_rate};
 ghost use Rattle.rates.specs.Force.{has_started, or_later, in_force, is_unset};
@@ -10,21 +11,21 @@ pub const MOST_ROWS: usize = 16;
 
 // A rate and the calendar day on which it starts. Its fields are narrow, because the book holds 16 of these and is
 // copied at every call, and there is no gap between two rows.
-#[derive(Drop)]
+#[derive(Clone, Copy)]
 pub struct RateRow {
     pub start: StoredDay,
     pub rate: u16,
 }
 
 // The rates of a book. They are the first count rows, in the order in which their starting days were first entered.
-#[derive(Drop)]
+#[derive(Clone, Copy)]
 pub struct Rates {
     pub rows: [RateRow; MOST_ROWS],
     pub count: usize,
 }
 
 // The row that is in force on a day, or that there is none.
-#[derive(Drop)]
+#[derive(Clone, Copy)]
 pub enum InForce {
     Since(RateRow),
     Unset,

@@ -1,4 +1,5 @@
 // Reads a line of a journal: it is a call with its arguments, a comment, or no call.
+#![tactic(auto)]
 ghost use Rattle.std.specs.Prelude.{◌≡◌, ◌≤◌, eqb, length, take, drop};
 ghost use Rattle.std.proofs.lemmas.List.Edits.{sets};
 ghost use Rattle.basics.specs.Choice.{pick};
@@ -10,7 +11,7 @@ ghost use Rattle.reading.specs.Found.{word_at, code_of, named_of, few_of, shaped
 use writing::SPACE;
 
 // The names of the calls, and of the one other line that is answered by numbers.
-#[derive(Drop)]
+#[derive(Clone, Copy)]
 pub enum Name {
     Open,
     Enter,
@@ -32,7 +33,7 @@ pub enum Name {
 }
 
 // Which numbers a call has.
-#[derive(Drop)]
+#[derive(Clone, Copy)]
 pub enum Shape {
     // This many numbers.
     Plain(usize),
@@ -45,7 +46,7 @@ pub enum Shape {
 }
 
 // What a line is. A call has a name, a shape and the number of its arguments.
-#[derive(Drop)]
+#[derive(Clone, Copy)]
 pub enum Line {
     Call(Name, Shape, usize),
     Comment,
@@ -53,21 +54,21 @@ pub enum Line {
 }
 
 // What a word of a line is. A number has its value and the place where the word ends.
-#[derive(Drop)]
+#[derive(Clone, Copy)]
 enum Word {
     Number(u64, usize),
     NoNumber,
 }
 
 // The call that a word names, if it names one, and its shape.
-#[derive(Drop)]
+#[derive(Clone, Copy)]
 enum Named {
     As(Name, Shape),
     Nothing,
 }
 
 // How many numbers were read, if every word was a number and each had a place.
-#[derive(Drop)]
+#[derive(Clone, Copy)]
 enum Count {
     All(usize),
     NotAll,

@@ -1,4 +1,5 @@
 // The lines of the latest Close. The book keeps them, so that Again can give them once more.
+#![tactic(auto)]
 ghost use Rattle.std.specs.Prelude.{◌≡◌, ◌+◌, ◌*◌, ◌≤◌, [], length};
 ghost use Rattle.ledger.specs.Lines.{words_in_line, fewest_words};
 ghost use Rattle.closing.specs.Lines.{line_at, lines_read, written, SoundLine};
@@ -9,7 +10,7 @@ use ledger::{MOST_LINES, WORDS_IN_LINE};
 
 // A line of a Close as the book keeps it. Its fields are narrow, because the book holds 192 of these and is copied at
 // every call, and there is no gap between two lines.
-#[derive(Drop)]
+#[derive(Clone, Copy)]
 pub struct KeptLine {
     pub cents: u64,
     pub quantity: u32,
@@ -20,7 +21,7 @@ pub struct KeptLine {
 }
 
 // The lines of the latest Close. They are the first count rows.
-#[derive(Drop)]
+#[derive(Clone, Copy)]
 pub struct LastClose {
     pub rows: [KeptLine; MOST_LINES],
     pub count: usize,
@@ -82,8 +83,7 @@ impl LastClose {
     // Keeps the first count lines of a list of words.
     pub fn of(lines: &[u64], count: usize) -> LastClose
         requires { Keepable count lines.now }
-        ensures value { result ≡ kept_from (lines_read count lines.now) }
-        ensures lines_value { lines.now ≡ lines.now }
+        ensures { result ≡ kept_from (lines_read count lines.now) }
     {
         let mut rows = [NO_LINE; MOST_LINES];
         let mut i = 0;

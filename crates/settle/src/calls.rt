@@ -17,7 +17,7 @@ use reading::{Line, Name, Shape};
 // use the rest, which may be left from earlier lines. `from` and `to` are the places of the list of an open or a month.
 // `lent` says how many words a close, an again, a month or a target is lent, and `fill` with what value they are
 // filled.
-#[derive(Drop)]
+#[derive(Clone, Copy)]
 pub struct Asked {
     pub line: Line,
     pub first: u64,
@@ -33,7 +33,7 @@ pub struct Asked {
 }
 
 // The book after a line, and the answer to the line.
-#[derive(Drop)]
+#[derive(Clone, Copy)]
 pub struct Played {
     pub book: Book,
     pub answer: Answer,

@@ -11,7 +11,7 @@ use libc::{STDIN_FILENO, STDOUT_FILENO};
 use lines::{Feed, Taken};
 
 // How the run goes.
-#[derive(Drop)]
+#[derive(Clone, Copy)]
 pub enum Course {
     // No read and no write has failed, and the input is not over.
     Going,
@@ -22,7 +22,7 @@ pub enum Course {
 }
 
 // What a read brought.
-#[derive(Drop)]
+#[derive(Clone, Copy)]
 enum Read {
     Bytes(usize),
     Nothing,
@@ -30,7 +30,7 @@ enum Read {
 }
 
 // Where the input stands, where the answers in the output end, and how the run goes.
-#[derive(Drop)]
+#[derive(Clone, Copy)]
 pub struct Flow {
     pub feed: Feed,
     pub end: usize,
@@ -52,7 +52,6 @@ pub fn start() -> Flow
 // reason on standard error.
 pub fn write_out(out: &[u8], end: usize) -> bool
     requires { end ≤ length out.now }
-    ensures { out.now ≡ out.now }
 {
     if io::write_all(STDOUT_FILENO, &out[..end]) {
         return true;

@@ -1,6 +1,7 @@
 // settle: plays a journal from standard input on one book and writes the answers to standard output. It holds one line
 // at a time, so its memory does not grow with the journal. Whenever its input is used up, it writes all answers so far.
 // With an argument on its command line it says what it is and plays nothing.
+#![tactic(auto)]
 ghost use Rattle.std.specs.Prelude.{◌≡◌, ◌<◌, ◌-◌, ◌≤◌, length};
 ghost use Rattle.settle.specs.Turns.{Buffers, begins, turns_left};
 ghost use Rattle.settle.specs.Ending.{PlaysIn};

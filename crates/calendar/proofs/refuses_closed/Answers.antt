@@ -1,0 +1,14 @@
+-- `refuses_closed` meets its contract.
+use mathlib.Core.Path.{refl}
+use borrow.Author.Rules.{rules}
+use borrow.Author.Tests.{le-leb, lt-ltb, lt-leb}
+use Rattle.calendar.specs.Closed.{closed_refused}
+use Rattle.calendar.proofs.refuses_closed.Goals as goal
+
+pub returns-then-days-gt-MOST_CLOSED : goal.returns-then-days-gt-MOST_CLOSED
+unfolding closed_refused
+returns-then-days-gt-MOST_CLOSED c = rw (lt-ltb _ _ c.if-days-gt-MOST_CLOSED.true, lt-leb _ _ c.if-days-gt-MOST_CLOSED.true)
+
+pub returns-else-days-gt-MOST_CLOSED : goal.returns-else-days-gt-MOST_CLOSED
+unfolding closed_refused
+returns-else-days-gt-MOST_CLOSED c = rw (le-leb _ _ c.if-days-gt-MOST_CLOSED.false, c.is_rising.ensures)
