@@ -109,6 +109,9 @@ class Converter:
                 if label is not None:
                     rest = [label] * bool(label) + rest[1:]
             return ["requires"] + rest
+        # The kit's scripts took some names of steps for lemmas of std and gave them an ending.
+        if norm(head) != at["old"] and norm(head).removesuffix("-lem") == at["old"]:
+            head = head.removesuffix("_lem")
         if norm(head) != at["old"]:
             self.trouble.append(f"{head} is not the step of {place} ({at['old']})")
             return fields

@@ -1,5 +1,5 @@
 -- Laws on how large amounts can be.
-use Prim.Native.Nat.{ℕ, ◌+◌, ◌-◌, ◌*◌, ◌/◌, ◌≤◌, ◌<◌}
+use Prim.Native.Nat.{ℕ, ◌+◌, ◌*◌, ◌/◌, ◌≤◌, ◌<◌}
 use native.Mathlib.Nat.{mul-le-mul, le-div_iff_mul-le, div-add-mod', mod-lt}
 use native.Mathlib.Omega.{arith}
 use Rattle.amounts.specs.Amounts.{most_quantity, most_close_price, most_rate, most_penalty, value, penalty}

@@ -2,6 +2,7 @@
 // products. All amounts are cents. The `requires` clauses state the limits of refusals 2 and 3, within which nothing
 // overflows.
 #![tactic(auto)]
+
 ghost use Rattle.std.specs.Prelude.{◌≡◌, ◌+◌, ◌-◌, ◌*◌, ◌/◌, ◌≤◌, ◌<◌, ◌^◌};
 ghost use Rattle.amounts.specs.Amounts.{most_quantity, most_amount, most_close_price, most_offer_price, most_rate, value, penalty, compensation, due_for, cash, charge, tolerance, amounts_match, above_cap};
 ghost use Rattle.amounts.specs.Quotients.{rounded, divided, Part};
