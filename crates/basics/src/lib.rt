@@ -2,6 +2,7 @@
 // is outside two limits. specs/ has the choice by a test, sums over a list, and lists of refusals. proofs/ has their
 // laws, and laws on lists that the kit does not have.
 #![tactic(auto)]
+
 ghost use Rattle.std.specs.Prelude.{◌≡◌, min};
 ghost use Rattle.basics.specs.Refusals.{outside};
 

@@ -1,6 +1,7 @@
 // The calendar: days, the book's closed days, clearing days, and ages counted in them. A calendar day and a count of
 // clearing days are two types, and only the functions of this crate lead from one to the other.
 #![tactic(auto)]
+
 ghost use Rattle.std.specs.Prelude.{◌≡◌, ◌≤◌, length};
 ghost use Rattle.calendar.specs.Closed.{stored_day, day_of, last_day, most_closed, rises_from, closed_refused, closed_days, listed_days, Rises, among};
 ghost use Rattle.calendar.specs.Days.{clearing, next_after, nth_after, age_at, weekdays_to, takes_away, closed_between};

@@ -1,13 +1,12 @@
 -- `is_rising` meets its contract: the days from each turn on rise from the least day that may come next.
-use Prim.Native.Nat.{ℕ, ◌+◌, ◌-◌, ◌≤◌}
+use Prim.Native.Nat.{ℕ, ◌+◌, ◌≤◌}
 use native.Mathlib.Omega.{arith}
 use mathlib.Core.Bool.{◌&&◌}
 use mathlib.Core.Logic.{⊎_elim}
 use mathlib.Core.Path.{◌≡◌, sym, ◌∙◌}
 use lib.Dec.{leb}
-use lib.ListN.{length, get_or, drop}
-use borrow.Author.Rules.{rules}
-use borrow.Author.Tests.{ltb-true, ltb-false, le-leb, lt-leb}
+use lib.ListN.{get_or, drop}
+use borrow.Author.Tests.{le-leb, lt-leb}
 use Rattle.calendar.specs.Closed.{last_day, rises_from}
 use Rattle.calendar.proofs.Closed.{rises_more, rises_end}
 use Rattle.calendar.proofs.is_rising.Goals as goal

@@ -1,6 +1,4 @@
 -- `refuses_closed` meets its contract.
-use mathlib.Core.Path.{refl}
-use borrow.Author.Rules.{rules}
 use borrow.Author.Tests.{le-leb, lt-ltb, lt-leb}
 use Rattle.calendar.specs.Closed.{closed_refused}
 use Rattle.calendar.proofs.refuses_closed.Goals as goal

@@ -1,6 +1,5 @@
 -- `weekdays_to` meets its contract.
 use native.Mathlib.Omega.{arith}
-use borrow.Author.Rules.{rules}
 use Rattle.calendar.proofs.Counting.{weekdays_by_weeks}
 use Rattle.calendar.proofs.weekdays_to.Goals as goal
 

@@ -1,5 +1,5 @@
 -- `nth_after` meets its contract: the n-th clearing day is the next one after the (n - 1)-th.
-use Rattle.std.proofs.Common.{sym, ◌∙◌, arith}
+use Rattle.std.proofs.Common.{sym, ◌∙◌}
 use native.Mathlib.Nat.{pos_of_ne-zero}
 use Rattle.calendar.specs.Days.{next_of, nth_after}
 use Rattle.calendar.proofs.Walks.{nth_none, nth_more}

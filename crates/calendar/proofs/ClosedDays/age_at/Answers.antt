@@ -1,7 +1,6 @@
 -- `age_at` meets its contract.
 use native.Mathlib.Omega.{arith}
 use mathlib.Core.Path.{sym, ap}
-use borrow.Author.Rules.{rules}
 use Rattle.calendar.specs.Closed.{listed_days}
 use Rattle.calendar.specs.Days.{clearing_days}
 use Rattle.calendar.proofs.Ages.{age_early}

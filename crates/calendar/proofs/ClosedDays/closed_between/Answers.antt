@@ -1,15 +1,13 @@
 -- `closed_between` meets its contract: what was counted so far and what is left to count are together the whole count.
-use Prim.Native.Nat.{◌+◌, ◌-◌, ◌≤◌}
+use Prim.Native.Nat.{◌+◌}
 use native.Mathlib.Omega.{arith}
-use mathlib.Core.Logic.{⊎_elim}
 use mathlib.Core.Path.{◌≡◌, sym}
-use lib.ListN.{length, drop}
+use lib.ListN.{length}
 use borrow.Author.Rules.{rules}
-use borrow.Author.Tests.{ltb-true, ltb-false}
 use Rattle.basics.proofs.Cases.{length_mapped}
-use Rattle.calendar.specs.Closed.{most_closed, listed_days}
+use Rattle.calendar.specs.Closed.{most_closed}
 use Rattle.calendar.specs.Days.{closed_between}
-use Rattle.calendar.proofs.Closed.{held, listed_more, listed_end}
+use Rattle.calendar.proofs.Closed.{listed_more, listed_end}
 use Rattle.calendar.proofs.ClosedDays.closed_between.Goals as goal
 use Rattle.calendar.proofs.ClosedDays.closed_between.Goals.{At-loop-i, else-takes_away, then-takes_away}
 

@@ -1,5 +1,4 @@
 -- `is_clearing` meets its contract.
-use borrow.Author.Rules.{rules}
 use borrow.Author.Tests.{le-leb, lt-leb}
 use Rattle.calendar.specs.Days.{clearing}
 use Rattle.calendar.proofs.ClosedDays.is_clearing.Goals as goal

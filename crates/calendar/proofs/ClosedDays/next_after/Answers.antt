@@ -1,9 +1,5 @@
 -- `next_after` meets its contract.
-use Prim.Native.Nat.{◌-◌}
-use mathlib.Core.Path.{◌≡◌, refl, sym, ◌∙◌}
-use borrow.Author.Rules.{rules}
-use Rattle.calendar.specs.Closed.{day, listed_days}
-use Rattle.calendar.specs.Days.{next_after}
+use mathlib.Core.Path.{refl, sym, ◌∙◌}
 use Rattle.calendar.proofs.Walks.{next_more, next_none}
 use Rattle.calendar.proofs.ClosedDays.next_after.Goals as goal
 

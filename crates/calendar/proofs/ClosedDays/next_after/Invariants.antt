@@ -1,10 +1,8 @@
 -- `next_after` meets its contract.
 use Prim.Native.Nat.{◌-◌}
-use mathlib.Core.Path.{◌≡◌, refl, sym, ◌∙◌}
-use borrow.Author.Rules.{rules}
+use mathlib.Core.Path.{◌≡◌}
 use Rattle.calendar.specs.Closed.{day, listed_days}
 use Rattle.calendar.specs.Days.{next_after}
-use Rattle.calendar.proofs.Walks.{next_more, next_none}
 use Rattle.calendar.proofs.ClosedDays.next_after.Given as goal
 
 abbrev pub invariant-loop-d : goal.invariant-loop-d

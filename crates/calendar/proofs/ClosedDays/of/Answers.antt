@@ -1,12 +1,5 @@
 -- `of` meets its contract.
-use Prim.Native.Nat.{◌-◌, ◌≤◌}
 use native.Mathlib.Omega.{arith}
-use mathlib.Core.List.{map}
-use mathlib.Core.Path.{◌≡◌, refl}
-use lib.ListN.{take}
-use borrow.Author.Rules.{rules}
-use Rattle.basics.specs.Lists.{padded}
-use Rattle.calendar.specs.Closed.{day, most_closed}
 use Rattle.calendar.proofs.Closed.{stored_more, stored_all}
 use Rattle.calendar.proofs.ClosedDays.of.Goals as goal
 
