@@ -95,9 +95,18 @@ class Converter:
         self.fn, self.clauses, self.path = fn, clauses, path
         self.used_places = set()
         self.trouble = []
+        self.takes = {}
 
     # ---- paths
-    def field(self, place, fields):
+    def step(self, low, name):
+        """The place on the way to `low` that a step leads to."""
+        while low:
+            if self.fn.places[low]["old"] == name:
+                return low
+            low = self.fn.places[low]["parent"]
+        return None
+
+    def field(self, place, fields, base):
         """The new path of `fields` behind c at `place`."""
         at = self.fn.places[place]
         head, rest = fields[0], fields[1:]
@@ -110,8 +119,12 @@ class Converter:
                     rest = [label] * bool(label) + rest[1:]
             return ["requires"] + rest
         # The kit's scripts took some names of steps for lemmas of std and gave them an ending.
-        if norm(head) != at["old"] and norm(head).removesuffix("-lem") == at["old"]:
+        if norm(head) != at["old"] and not self.step(base, norm(head)):
             head = head.removesuffix("_lem")
+        # A step more or less than there was: its name tells which it is.
+        if norm(head) != at["old"] and self.step(base, norm(head)):
+            place = self.step(base, norm(head))
+            at = self.fn.places[place]
         if norm(head) != at["old"]:
             self.trouble.append(f"{head} is not the step of {place} ({at['old']})")
             return fields
@@ -158,19 +171,22 @@ class Converter:
         return False
 
     def resolve(self, var, fields, env):
-        head, ups, place = env[var]
+        head, ups, place = env[var][:3]
+        base = env[var][3] if len(env[var]) > 3 else place
         fields = list(fields)
         n = 0
         while fields and fields[0] == "before":
             fields.pop(0)
             n += 1
         where = self.fn.up(place, n)
+        if where is None and fields:
+            where = place
         if where is None:
             self.trouble.append(f"{var}{'.before' * n} leads nowhere from {place}")
             return None, None
         if not fields:
-            return (head, ups + n, where), None
-        return None, head + "." + ".".join(self.field(where, fields))
+            return (head, ups + n, where, base), None
+        return None, head + "." + ".".join(self.field(where, fields, base))
 
     def text(self, body, env):
         env = dict(env)
@@ -201,7 +217,15 @@ class Converter:
                 continue
             alias, path = self.resolve(var, fields, env)
             if alias:
-                out.append(alias[0] + ".before" * alias[1])
+                called = re.search(r"(" + TOKEN + r") $", "".join(out))
+                want = called and self.takes.get(called[1])
+                n = alias[1]
+                if want and want != alias[2]:
+                    low, k = alias[3], 0
+                    while low and low != want:
+                        low, k = self.fn.places[low]["parent"], k + 1
+                    n = k if low else n
+                out.append(alias[0] + ".before" * n)
             else:
                 out.append(path or m[0])
         out.append(body[at:])
@@ -541,6 +565,8 @@ def main():
                 sig_done = con.text(sig2, env)
                 whole = (comment + "\n" if comment else "") + sig_done + "\n" + con.text(body, env)
                 place = next(iter(env.values()))[2] if env else None
+                if len({v[2] for v in env.values()}) == 1:
+                    con.takes[name] = place
                 let = None
                 if place and fn.typed.get(place):
                     let = as_let(name, sig_done, con.text(body, env), {v[0] for v in env.values()})

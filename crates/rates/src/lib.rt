@@ -1,5 +1,6 @@
 // The rates of a book with their starting days, and which of them is in force on a day.
 #![tactic(auto)]
+
 ghost use Rattle.std.specs.Prelude.{◌≡◌, ◌≤◌, ◌<◌};
 ghost use Rattle.rates.specs.Rows.{most_rows, start_of, holds, place_of, no_rates, listed_rates, with_rate};
 ghost use Rattle.rates.specs.Force.{has_started, or_later, in_force, is_unset};
