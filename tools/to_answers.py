@@ -219,12 +219,12 @@ class Converter:
             if alias:
                 called = re.search(r"(" + TOKEN + r") $", "".join(out))
                 want = called and self.takes.get(called[1])
-                n = alias[1]
-                if want and want != alias[2]:
-                    low, k = alias[3], 0
-                    while low and low != want:
-                        low, k = self.fn.places[low]["parent"], k + 1
-                    n = k if low else n
+                # The record of an arm stands for the steps that its pattern took.
+                low, k, to = alias[3], 0, want or alias[2]
+                arm = self.fn.places[low]["arm"]
+                while low and low != to:
+                    low, k = self.fn.up(low, arm[1] if arm and k == 0 else 1), k + 1
+                n = k if low else alias[1]
                 out.append(alias[0] + ".before" * n)
             else:
                 out.append(path or m[0])
@@ -488,7 +488,7 @@ def invariants(fn, decls):
             out.append((None, f"{name}: {len(binders)} binders for {len(paths)} variables {names}"))
             continue
         to = {b: p for b, p in zip(binders, paths) if b != "_"}
-        term = re.sub(r"(?<![^\s(){};,←@])(" + TOKEN + r")", lambda t: to.get(t[1], t[1]), term)
+        term = re.sub(r"((?:\{|;)\s*)?(?<![^\s(){};,←@])(" + TOKEN + r")(?=( = )?)", lambda t: t[0] if t[1] and t[3] else (t[1] or "") + to.get(t[2], t[2]), term)
         new = f"{kind}-{loop[1]}"
         out.append((new, (comment + "\n" if comment else "") + f"abbrev pub {new} : goal.{new}\n{unfold}{new} l ={term}"))
     return out
