@@ -1,6 +1,7 @@
 // The members' accounts: a penalty that passes from one to another, what each account claims and owes, and how the sum
 // collected in a month is shared.
 #![tactic(auto)]
+
 ghost use Rattle.std.specs.Prelude.{◌≡◌, ◌*◌, ◌≤◌, ◌<◌, ◌^◌, length, get_or, nat_abs};
 ghost use Rattle.basics.specs.Lists.{sum};
 ghost use Rattle.amounts.specs.Quotients.{divided};

@@ -1,5 +1,6 @@
 // Month: what is collected from the members that owe, and paid out to those that claim.
 #![tactic(auto)]
+
 ghost use Rattle.std.specs.Prelude.{◌≡◌, ◌<◌, false, length, get_or, pos};
 ghost use Rattle.netting.specs.Accounts.{member_count, debts, Bounded, balance};
 ghost use Rattle.payments.specs.Month.{bad_amounts, bad_lists, over_collected, amounts_paid, month_answer_by, paid_out};
