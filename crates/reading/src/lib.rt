@@ -1,5 +1,6 @@
 // Reads a line of a journal: it is a call with its arguments, a comment, or no call.
 #![tactic(auto)]
+
 ghost use Rattle.std.specs.Prelude.{◌≡◌, ◌≤◌, eqb, length, take, drop};
 ghost use Rattle.std.proofs.lemmas.List.Edits.{sets};
 ghost use Rattle.basics.specs.Choice.{pick};

@@ -1,6 +1,7 @@
 // Writes numbers, labels and line feeds as text at a place of the output. Each function that writes answers the place
 // after what it wrote. The bytes between words and between lines stand here, and so does the search for them.
 #![tactic(auto)]
+
 ghost use Rattle.std.specs.Prelude.{◌≡◌, [], ◌∷◌, map, ◌+◌, ◌*◌, ◌/◌, ◌%◌, ◌≤◌, ◌<◌, length};
 ghost use Rattle.basics.specs.Lists.{between, up_to};
 ghost use Rattle.writing.specs.Digits.{digit, digits_of, signed_of};
