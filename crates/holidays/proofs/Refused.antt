@@ -9,7 +9,7 @@ use lib.ListN.{length, take, drop}
 use lib.Seq.{take-append_seam}
 use borrow.Author.Tests.{leb-true, leb-false, ltb-false, le-leb, lt-leb, lt-ltb, le-ltb}
 use Rattle.basics.specs.Lists.{at_front}
-use Rattle.basics.specs.Refusals.{answer, outside}
+use Rattle.basics.specs.Refusals.{outside}
 use Rattle.basics.proofs.Cases.{same_test, or_false}
 use Rattle.basics.proofs.Refusals.{passed, refused_with, done_by, Refuses, outcome_refuses}
 use Rattle.calendar.specs.Closed.{most_closed, closed_refused}

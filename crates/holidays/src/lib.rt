@@ -1,6 +1,7 @@
 // The closed days of TARGET. A book is opened with a list of closed days, and the call Target writes this list for a
 // few years. It takes no book.
 #![tactic(auto)]
+
 ghost use Rattle.std.specs.Prelude.{◌≡◌, ◌+◌, ◌*◌, ◌≤◌, length};
 ghost use Rattle.std.proofs.lemmas.List.Edits.{sets};
 ghost use Rattle.basics.specs.Lists.{at_front};

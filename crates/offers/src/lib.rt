@@ -1,5 +1,6 @@
 // The day's offers, which are kept in the order of the auction, and the pass of a buy-in over them.
 #![tactic(auto)]
+
 ghost use Rattle.std.specs.Prelude.{◌≡◌, ◌||◌, ◌≤◌, ◌<◌, min, eqb};
 ghost use Rattle.basics.specs.Choice.{pick};
 ghost use Rattle.offers.specs.Rank.{overtakes};
