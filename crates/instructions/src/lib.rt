@@ -1,5 +1,6 @@
 // Instructions: the legs that members enter, and the search for the leg that a new one matches.
 #![tactic(auto)]
+
 ghost use Rattle.std.specs.Prelude.{◌≡◌, ◌≤◌, ◌<◌};
 ghost use Rattle.instructions.specs.Legs.{most_legs, is_waiting, leg_of, Fitting, no_legs, in_state, fetched_leg, with_state};
 ghost use Rattle.instructions.specs.Match.{delivering, receiving, members_cross, same_business, fits, lowest_fit};

@@ -1,6 +1,5 @@
 -- `obligation_number` meets its contract.
 use mathlib.Core.Path.{sym, ap}
-use borrow.Author.Rules.{rules}
 use Rattle.instructions.specs.declared.Entry.{Entry}
 use Rattle.instructions.specs.Entry.{obligation_number}
 use Rattle.instructions.proofs.Entry.obligation_number.Goals as goal

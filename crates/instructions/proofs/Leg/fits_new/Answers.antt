@@ -1,5 +1,5 @@
 -- `fits_new` meets its contract: what the tests so far have given is what the definition gives of them.
-use Rattle.std.proofs.Common.{arith, cond, ◌≡◌, ◌∙◌, sym, ap₂}
+use Rattle.std.proofs.Common.{arith}
 use Rattle.std.proofs.lemmas.Grind.{common_steps}
 use Rattle.instructions.specs.Match.{fits}
 use Rattle.instructions.proofs.Leg.fits_new.Goals as goal

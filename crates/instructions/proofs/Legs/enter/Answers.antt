@@ -3,8 +3,6 @@ use Prim.Native.Nat.{◌<◌}
 use native.Mathlib.Omega.{arith}
 use mathlib.Core.Path.{sym, ap, ap₂, subst, ◌∙◌}
 use lib.ListN.{set}
-use mathlib.Core.Logic.{⊎_elim}
-use borrow.Author.Rules.{rules}
 use Rattle.instructions.specs.declared.Leg.{Leg}
 use Rattle.instructions.specs.declared.Legs.{Legs}
 use Rattle.instructions.specs.declared.Entry.{Entry}
@@ -56,9 +54,9 @@ returns c =
     let a = c.args in
     let by : Entry → Legs = λ e. with_entry e a.obligation a.self in
     elim c.match-entry.branch [
-      in-Refused w ↦ (λ i. record { rows = w.rows-is i; count = w.count-is i }) ∙ ap by (sym w.in-Refused.is)
+      | in-Refused w ↦ (λ i. record { rows = w.rows-is i; count = w.count-is i }) ∙ ap by (sym w.in-Refused.is)
       | in-Alone w ↦ (λ i. record { rows = w.rows-is i; count = w.count-is i }) ∙ ap by (sym w.in-Alone.is)
       | in-Matching w ↦
-        let rows = ap₂ (λ (old new : Leg). set (set a.self.rows w.in-Matching.k old) a.self.count new) w.in_state.ensures w.in_state-in-Matching.ensures in
-        (λ i. record { rows = (w.rows-is ∙ rows) i; count = w.count-is i }) ∙ ap by (sym w.in-Matching.is)
+          let rows = ap₂ (λ (old new : Leg). set (set a.self.rows w.in-Matching.k old) a.self.count new) w.in_state.ensures w.in_state-in-Matching.ensures in
+          (λ i. record { rows = (w.rows-is ∙ rows) i; count = w.count-is i }) ∙ ap by (sym w.in-Matching.is)
     ]

@@ -1,6 +1,5 @@
 -- `entry` meets its contract.
 use mathlib.Core.Path.{◌≡◌, sym, ap, ap₂, ◌∙◌}
-use borrow.Author.Rules.{rules}
 use borrow.Author.Tests.{eq-eqb, ne_eqb}
 use Rattle.instructions.specs.Match.{lowest_fit}
 use Rattle.instructions.specs.Entry.{entry_by, entry_of}

@@ -1,5 +1,4 @@
 -- `fetch` meets its contract.
-use borrow.Author.Rules.{rules}
 use borrow.Author.Tests.{lt-ltb, le-ltb}
 use Rattle.instructions.specs.Legs.{fetched_leg}
 use Rattle.instructions.proofs.Legs.fetch.Goals as goal

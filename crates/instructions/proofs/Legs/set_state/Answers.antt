@@ -1,7 +1,6 @@
 -- `set_state` meets its contract.
 use mathlib.Core.Path.{ap}
 use lib.ListN.{set}
-use borrow.Author.Rules.{rules}
 use Rattle.instructions.specs.declared.Leg.{Leg}
 use Rattle.instructions.proofs.Legs.set_state.Goals as goal
 
