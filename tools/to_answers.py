@@ -534,7 +534,7 @@ def main():
                         con.trouble.append(f"need {need} is gone: {body[:80]!r}")
                     continue
                 goal, place = hit
-                if re.search(r"= (search rules|omega arith)\s*$", body):
+                if "unfolding" not in body and re.search(r"= (search rules|omega arith)\s*$", body):
                     continue
                 unfold = "".join(l + "\n" for l in body.split("\n") if l.startswith("unfolding"))
                 body = "\n".join(l for l in body.split("\n") if not l.startswith("unfolding"))

@@ -1,6 +1,7 @@
 // The ledger: obligations with their parts, the day's offers and the members' accounts, and what a delivery and a wish
 // to cancel do to an obligation.
 #![tactic(auto)]
+
 ghost use Rattle.std.specs.Prelude.{◌≡◌, ◌+◌, ◌≤◌, ◌<◌};
 ghost use Rattle.amounts.specs.Amounts.{most_quantity, most_close_price};
 ghost use Rattle.ledger.specs.Setup.{ValidTerms};
