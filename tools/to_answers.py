@@ -96,6 +96,8 @@ class Converter:
         self.used_places = set()
         self.trouble = []
         self.takes = {}
+        # helpers that lead from one place to another
+        self.leads = {}
 
     # ---- paths
     def step(self, low, name):
@@ -109,6 +111,8 @@ class Converter:
     def field(self, place, fields, base):
         """The new path of `fields` behind c at `place`."""
         at = self.fn.places[place]
+        older = {"inv": "invariant", "taken": "true", "left": "false", "pre": "requires"}
+        fields = [older.get(f, f) for f in fields]
         head, rest = fields[0], fields[1:]
         if head in ("args", "ranges", "well_formed"):
             return [head] + rest
@@ -188,11 +192,67 @@ class Converter:
             return (head, ups + n, where, base), None
         return None, head + "." + ".".join(self.field(where, fields, base))
 
+    def chain(self, alias, want):
+        """A place by steps back from where the goal stands."""
+        # The record of an arm stands for the steps that its pattern took.
+        low, k, to = alias[3], 0, want or alias[2]
+        arm = self.fn.places[low]["arm"]
+        while low and low != to:
+            low, k = self.fn.up(low, arm[1] if arm and k == 0 else 1), k + 1
+        return alias[0] + ".before" * (k if low else alias[1])
+
+    def place_at(self, body, at, env):
+        """The place that is written at `at`, as `c.before` or `(start c)`, and where it ends."""
+        m = re.compile(r"\(\s*(" + TOKEN + r")\s+").match(body, at)
+        if m and m[1] in self.leads:
+            inner, end = self.place_at(body, m.end(), env)
+            if inner and body[end : end + 1] == ")":
+                to, low, k = self.leads[m[1]], inner[3], 0
+                while low and low != to:
+                    low, k = self.fn.places[low]["parent"], k + 1
+                return (inner[0], k, to, inner[3]), end + 1
+            return None, at
+        m = re.compile(r"(" + TOKEN + r")((?:\.before)*)(?![\w'.-])").match(body, at)
+        if m and m[1] in env:
+            alias, _ = self.resolve(m[1], ["before"] * m[2].count(".before"), env)
+            return alias, m.end()
+        return None, at
+
     def text(self, body, env):
         env = dict(env)
+        if self.leads:
+            # where such a helper stands, a variable of its own stands for the place
+            names = "|".join(map(re.escape, self.leads))
+            body = re.sub(r"(let " + TOKEN + r" = )((?:" + names + r") [^\n]*?)(\s+in\s)", r"\1(\2)\3", body)
         out, at = [], 0
         pattern = re.compile(r"let (" + TOKEN + r") = (" + TOKEN + r")((?:\." + TOKEN + r")*) in\s*|(?<![^\s(){};,←@])(" + TOKEN + r")((?:\.(?:" + TOKEN + r"))*)")
         while m := pattern.search(body, at):
+            if self.leads:
+                p = body.find("(", at)
+                lead = re.compile(r"\(\s*(" + TOKEN + r")\s").match(body, p) if 0 <= p <= m.start() else None
+                if lead and lead[1] in self.leads:
+                    alias, end = self.place_at(body, p, env)
+                    if alias:
+                        out.append(body[at:p])
+                        fields = re.compile(r"((?:\." + TOKEN + r")*)").match(body, end)
+                        let = re.search(r"let (" + TOKEN + r") = $", "".join(out))
+                        env["§"] = alias
+                        more, path = self.resolve("§", fields[1].split(".")[1:], env)
+                        if let and more and re.compile(r"\s+in\s").match(body, fields.end()):
+                            env[let[1]] = more
+                            joined = "".join(out)
+                            out = [joined[: let.start()]]
+                            at = re.compile(r"\s+in\s*").match(body, fields.end()).end()
+                            continue
+                        at = fields.end()
+                        if more:
+                            called = re.search(r"(" + TOKEN + r") $", "".join(out))
+                            out.append(self.chain(more, called and self.takes.get(called[1])))
+                        else:
+                            out.append(path)
+                        continue
+            if m[1] and re.compile(r"\(").match(body, m.end()) is None and False:
+                pass
             out.append(body[at : m.start()])
             at = m.end()
             if m[1]:
@@ -218,14 +278,7 @@ class Converter:
             alias, path = self.resolve(var, fields, env)
             if alias:
                 called = re.search(r"(" + TOKEN + r") $", "".join(out))
-                want = called and self.takes.get(called[1])
-                # The record of an arm stands for the steps that its pattern took.
-                low, k, to = alias[3], 0, want or alias[2]
-                arm = self.fn.places[low]["arm"]
-                while low and low != to:
-                    low, k = self.fn.up(low, arm[1] if arm and k == 0 else 1), k + 1
-                n = k if low else alias[1]
-                out.append(alias[0] + ".before" * n)
+                out.append(self.chain(alias, called and self.takes.get(called[1])))
             else:
                 out.append(path or m[0])
         out.append(body[at:])
@@ -488,6 +541,9 @@ def invariants(fn, decls):
             out.append((None, f"{name}: {len(binders)} binders for {len(paths)} variables {names}"))
             continue
         to = {b: p for b, p in zip(binders, paths) if b != "_"}
+        bare = {b.rstrip("₀") for b in binders}
+        if bare == set(names):
+            to = {b: ("l.initial." if b.endswith("₀") else "l.") + b.rstrip("₀") for b in binders}
         term = re.sub(r"((?:\{|;)\s*)?(?<![^\s(){};,←@])(" + TOKEN + r")(?=( = )?)", lambda t: t[0] if t[1] and t[3] else (t[1] or "") + to.get(t[2], t[2]), term)
         new = f"{kind}-{loop[1]}"
         out.append((new, (comment + "\n" if comment else "") + f"abbrev pub {new} : goal.{new}\n{unfold}{new} l ={term}"))
@@ -546,8 +602,16 @@ def main():
                 if goal.startswith("returns"):
                     own = clauses.of.get(path) or {"old": [], "ensures": []}
                     term = clause_wise(term, own["old"], own["ensures"])
+                elif "requires" in goal:
+                    callee = next((p["callee"] for p in fn.places.values() if p["parent"] == place and p["callee"] and goal.startswith(p["callee"].split("::")[-1])), None)
+                    names_of = (clauses.of.get(callee) or {}).get("requires") or []
+                    term = clause_wise(term, names_of, names_of)
                 ours.append([name, comment, goal, unfold, b[1], term])
             elif "tie." in sig:
+                leads = re.search(r": (?:tie|lts)\.([A-Z]" + TOKEN + r")(?: (?:invariant|decreases)-loop\w*)* → (?:tie|lts)\.([A-Z]" + TOKEN + r")(?: (?:invariant|decreases)-loop\w*)*\s*$", sig)
+                if leads:
+                    con.leads[name] = norm(leads[2])
+                    continue
                 sig2, env = con.place_of_type(sig)
                 unnamed = env.pop(None, [])
                 first = re.match(r"((?:.*\n)*?)" + re.escape(name) + r"((?: \S+)*?) =", body)

@@ -1,5 +1,6 @@
 // The end of a day: what a Close does to each obligation and to the accounts, and the lines that it reports.
 #![tactic(auto)]
+
 ghost use Rattle.std.specs.Prelude.{◌≡◌, ◌+◌, ◌*◌, ◌≤◌, length};
 ghost use Rattle.std.proofs.lemmas.List.Edits.{sets};
 ghost use Rattle.amounts.specs.Amounts.{most_close_price, most_offer_price};

@@ -1,0 +1,16 @@
+-- `buy_from` meets its contract.
+use native.Mathlib.Omega.{arith}
+use Rattle.closing.specs.Stages.{bought_from}
+use Rattle.ledger.proofs.Keeping.{outstanding_most}
+use Rattle.closing.proofs.buy_from.Goals as goal
+
+pub charge_for-requires : goal.charge_for-requires
+charge_for-requires c = let h = c.requires.takes in (omega (arith, outstanding_most _ h.0.sound, h.0.enough), h.1)
+
+pub report-requires : goal.report-requires
+unfolding bought_from
+report-requires c = c.requires.room
+
+pub returns : goal.returns
+unfolding bought_from
+returns c = rw (← c.cash_for-cash.ensures, ← c.charge_for.ensures, ← c.move_to-next.ensures) c.report.ensures
