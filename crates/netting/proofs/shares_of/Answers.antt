@@ -17,9 +17,6 @@ asked c =
     let gs = c.claims_of-claims in
     dividable a.accounts a.collected gs.result (search rules) c.requires gs.ensures
 
-pub claims_of-claims-requires : goal.claims_of-claims-requires
-claims_of-claims-requires c = c.requires.bounded
-
 pub portions_of-portions-requires : goal.portions_of-portions-requires
 portions_of-portions-requires c = asked c
 

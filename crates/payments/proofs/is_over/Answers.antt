@@ -4,17 +4,11 @@ use lib.ListN.{length, get_or}
 use lib.IntN.{pos}
 use borrow.Author.Tests.{lt-ltb, le-ltb}
 use borrow.Author.Rules.{rules}
-use Rattle.payments.proofs.Collected.{undecided_none, undecided_more, decided_over, decided_within}
+use Rattle.payments.proofs.Collected.{undecided_more, decided_over, decided_within}
 use Rattle.netting.proofs.Signed.{read_is}
 use Rattle.netting.specs.Accounts.{owed}
 use Rattle.basics.proofs.Cases.{length_mapped}
 use Rattle.payments.proofs.is_over.Goals as goal
-
-pub loop-m-init : goal.loop-m-init
-loop-m-init c = undecided_none _ _
-
-pub owed_by-requires : goal.owed_by-requires
-owed_by-requires c = let p = c.requires c.loop-m.m in rw (read_is (get_or c.args.accounts c.loop-m.m (pos 0)) p) p
 
 pub returns-then-owed_by-collected : goal.returns-then-owed_by-collected
 returns-then-owed_by-collected c = let a = c.args in let m = c.loop-m.m in

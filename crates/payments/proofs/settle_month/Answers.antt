@@ -23,9 +23,6 @@ amounts_of-amounts-requires c =
     let good = sym c.are_bad_lists.ensures ∙ c.if-are_bad_lists.false in
     (c.requires.0, (good_lists (length c.args.collected.now) (length c.args.places.now) good).0)
 
-pub is_over-requires : goal.is_over-requires
-is_over-requires c = c.requires.0
-
 pub returns-then-is_over : goal.returns-then-is_over
 unfolding month_refusals paid_out
 returns-then-is_over c =
