@@ -1,5 +1,6 @@
 // The answers to the lines of a journal, and how each is written as text.
 #![tactic(auto)]
+
 ghost use Rattle.std.specs.Prelude.{◌+◌, ◌*◌, ◌≤◌, ◌≡◌, length, take, drop};
 ghost use Rattle.writing.specs.Answers.{Wrote};
 ghost use Rattle.answers.specs.Told.{most_shown, told, nothing, no_call, numbers_told, balance_told, closed_told, words_told};

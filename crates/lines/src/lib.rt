@@ -1,6 +1,7 @@
 // The input, line by line. The bytes that were read are taken up to the next line feed, and those of the current line
 // are held in a buffer until the line has ended.
 #![tactic(auto)]
+
 ghost use Rattle.std.specs.Prelude.{◌≡◌, ◌+◌, ◌≤◌, min, ◌-◌, length};
 ghost use Rattle.std.proofs.lemmas.List.Edits.{sets};
 ghost use Rattle.basics.specs.Lists.{between};
