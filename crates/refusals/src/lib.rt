@@ -3,6 +3,7 @@
 // call, `.._answer_in` that of those from its input, and `.._answer_of` that of those on the obligation; it is 0 if
 // none holds.
 #![tactic(auto)]
+
 ghost use Rattle.std.specs.Prelude.{◌≡◌, ◌≤◌};
 ghost use Rattle.basics.specs.Refusals.{answer};
 ghost use Rattle.amounts.specs.Amounts.{most_offer_price, most_close_price};
