@@ -7,6 +7,7 @@ It numbers no more where a record has names now, adds the impossible cases that 
 missing imports. What is left it prints.
 """
 
+import json
 import os
 import re
 import subprocess
@@ -60,6 +61,24 @@ def mend(where, said):
                     it[row] = at[: p.start()] + "." + names[k] + at[p.end() :]
                     done += 1
             continue
+        f = re.search(r"`Rattle\.\w+\.proofs\.(\S+)\.Lts\.([A-Z][\w-]*)`", text)
+        g = re.search(r"\(expected\) and the other has `Rattle\.\w+\.proofs\.\S+\.Lts\.([A-Z][\w-]*)`\s+\(found\)", lines[i + 1] if i + 1 < len(lines) else "")
+        if f and g and names_of:
+            parents = next((p for k, p in names_of.items() if k.endswith("." + f[1])), {})
+            p = re.compile(r"(\w+)((?:\.before)+)(?![\w'.-])").search(it[row], col)
+
+            def depth(low, to):
+                n = 0
+                while low is not None and low != to:
+                    low, n = parents.get(low), n + 1
+                return n if low == to else None
+
+            more, less = depth(g[1], f[2]), depth(f[2], g[1])
+            if p and (more or less):
+                n = p[2].count(".before") + (more or 0) - (less or 0)
+                it[row] = it[row][: p.start()] + p[1] + ".before" * n + it[row][p.end() :]
+                done += 1
+            continue
         f = re.search(r"has no field `(taken|left)`", text)
         if f:
             names = fields_of(lines, i)
@@ -88,7 +107,14 @@ def mend(where, said):
     return done
 
 
+names_of = {}
+
+
 def main():
+    if os.path.exists(f"/tmp/x/names-{sys.argv[1]}/names.json"):
+        for key, it in json.load(open(f"/tmp/x/names-{sys.argv[1]}/names.json")).items():
+            if isinstance(it, dict) and "places" in it:
+                names_of[re.sub(r"\.Lts.*$", "", key)] = {p[0]: p[1] for p in it["places"]}
     crate, rounds = sys.argv[1], int(sys.argv[2]) if len(sys.argv) > 2 else 6
     where = os.path.join("crates", crate)
     said = ""

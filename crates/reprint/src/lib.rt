@@ -1,5 +1,6 @@
 // The lines of the latest Close. The book keeps them, so that Again can give them once more.
 #![tactic(auto)]
+
 ghost use Rattle.std.specs.Prelude.{◌≡◌, ◌+◌, ◌*◌, ◌≤◌, [], length};
 ghost use Rattle.ledger.specs.Lines.{words_in_line, fewest_words};
 ghost use Rattle.closing.specs.Lines.{line_at, lines_read, written, SoundLine};
