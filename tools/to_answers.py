@@ -39,6 +39,19 @@ class Function:
         self.params = it["params"]
         self.typed = {p: t for p, t in zip(self.places, it["typed"])}
 
+    def whole(self, place):
+        """The whole arm to which a part of an arm belongs, or the place itself."""
+        arm = self.places[place]["arm"]
+        if not arm:
+            return place
+        name = arm[0][0].upper() + arm[0][1:]
+        return next((p for p, row in self.places.items() if row["name"] == name), place)
+
+    def stands_for(self, place):
+        """How many steps lie behind the record of a place: an arm stands for those that its pattern took."""
+        arm = self.places[place]["arm"]
+        return arm[1] if arm and self.whole(place) == place else 1
+
     def up(self, place, steps):
         for _ in range(steps):
             place = self.places[place]["parent"]
@@ -132,7 +145,7 @@ class Converter:
         if norm(head) != at["old"]:
             self.trouble.append(f"{head} is not the step of {place} ({at['old']})")
             return fields
-        arm = self.armed(place, head, rest)
+        arm = self.armed(base, head, rest)
         if arm:
             return arm
         new = at["new"]
@@ -156,23 +169,21 @@ class Converter:
                     rest = ["new", names[at_index]] + rest[k + 1 :]
         return [new] + rest
 
-    def armed(self, place, head, rest):
-        for name, row in self.fn.places.items():
-            arm = row["arm"]
-            if not arm or not self.above(name, place):
-                continue
-            for new, step, path in arm[2]:
-                if norm(step) == norm(head) and path and rest[: len(path)] == path:
-                    return [arm[0], new] + rest[len(path) :]
-        return None
-
-    def above(self, low, place):
-        """Whether `place` is `low` or one of those that lead to it."""
+    def armed(self, base, head, rest):
+        """A fact of an arm, where the way to `base` has the whole arm."""
+        low, names = base, []
         while low:
-            if low == place:
-                return True
+            names.append(self.fn.places[low]["name"])
             low = self.fn.places[low]["parent"]
-        return False
+        low = base
+        while low:
+            arm = self.fn.places[low]["arm"]
+            for new, step, path in arm[2] if arm else []:
+                if norm(step) == norm(head) and path and rest[: len(path)] == path:
+                    if arm[0][0].upper() + arm[0][1:] in names:
+                        return [arm[0], new] + rest[len(path) :]
+            low = self.fn.places[low]["parent"]
+        return None
 
     def resolve(self, var, fields, env):
         head, ups, place = env[var][:3]
@@ -194,11 +205,9 @@ class Converter:
 
     def chain(self, alias, want):
         """A place by steps back from where the goal stands."""
-        # The record of an arm stands for the steps that its pattern took.
         low, k, to = alias[3], 0, want or alias[2]
-        arm = self.fn.places[low]["arm"]
         while low and low != to:
-            low, k = self.fn.up(low, arm[1] if arm and k == 0 else 1), k + 1
+            low, k = self.fn.up(low, self.fn.stands_for(low)), k + 1
         return alias[0] + ".before" * (k if low else alias[1])
 
     def place_at(self, body, at, env):
@@ -293,6 +302,7 @@ class Converter:
             if place not in self.fn.places:
                 self.trouble.append(f"no place {m[2]}")
                 return m[0]
+            place = self.fn.whole(place)
             new = self.fn.places[place]["name"]
             self.used_places.add(new)
             for n in names:
@@ -306,6 +316,7 @@ class Converter:
             if place not in self.fn.places:
                 self.trouble.append(f"no place {m[1]}")
                 return m[0]
+            place = self.fn.whole(place)
             self.used_places.add(self.fn.places[place]["name"])
             env.setdefault(None, []).append(place)
             return self.fn.places[place]["name"]
@@ -356,6 +367,11 @@ def clause_wise(term, old, new):
     if len(old) < 2:
         return term
     got = tail_tuple(term)
+    while got and len(got[1]) < len(old) and got[1][-1].startswith("(") and closing(got[1][-1], 0) == len(got[1][-1]) - 1:
+        more = items(got[1][-1][1:-1])
+        if len(more) < 2:
+            break
+        got = (got[0], got[1][:-1] + more)
     if not got or len(got[1]) != len(old):
         return term
     pairs = [(n, t) for n, t in zip(old, got[1]) if n in new]

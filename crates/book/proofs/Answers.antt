@@ -4,5 +4,6 @@ use Rattle.book.specs.declared.Book.{Book}
 use Rattle.book.specs.Book.{Valid}
 
 -- the book of an answer, as the definition has it, is valid
-pub answered : {A : Type 0} (book : A → Book) {r s : A} → r ≡ s → Valid (book s) → (r ≡ s) × Valid (book r)
-answered book e v = (e, subst (λ x. Valid (book x)) (sym e) v)
+pub answered : {A : Type 0} (book : A → Book) {r s : A} → r ≡ s → Valid (book s) →
+    record { value : r ≡ s; valid : Valid (book r) }
+answered book e v = record { value = e; valid = subst (λ x. Valid (book x)) (sym e) v }

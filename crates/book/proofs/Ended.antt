@@ -161,10 +161,13 @@ module _ (b : Book) (v : Valid b) (d : DayEnd) (e : Ends b d) where
 -- ---- the answer of a Close and the words of its list
 -- refused by n: the same book and the same words
 pub refused_end : (b : Book) → Valid b → (price n : ℕ) (ws : List ℕ) (r : Closed) → r ≡ close_refused b n → close_answer b price (length ws) ≡ n → (n ≡ 0 → ⊥) →
-    (r ≡ close b price (length ws)) × ((ws ≡ close_words b price ws) × Valid r.book)
+    record { value : r ≡ close b price (length ws); lines_after : ws ≡ close_words b price ws; valid : Valid r.book }
 unfolding close close_by close_words
-refused_end b v price n ws r same e z =
-    (same ∙ by (next_day b) e, (refused_with n (close_refusals price (length ws) (next_day b) (force_of b)) _ (λ k. ws) e z, subst⁻¹ (λ (x : Closed). Valid x.book) same v))
+refused_end b v price n ws r same e z = record {
+  value = same ∙ by (next_day b) e;
+  lines_after = refused_with n (close_refusals price (length ws) (next_day b) (force_of b)) _ (λ k. ws) e z;
+  valid = subst⁻¹ (λ (x : Closed). Valid x.book) same v;
+}
   where
     by : (t : NextDay) → answer (close_refusals price (length ws) t (force_of b)) ≡ n → close_refused b n ≡ close_by b price (length ws) t
     by Never e = ap (close_refused b) (sym e)
@@ -205,20 +208,23 @@ module _ (b : Book) (v : Valid b) (price : ℕ) (ws : List ℕ) (e : answer (clo
     }
 
     pub done_end : (k : LastClose) → k ≡ kept_from (lines_read count ws') →
-        (record { answer = 0; count = count; book = ended l k } ≡ close b price (length ws)) × ((ws' ≡ close_words b price ws) × Valid (ended l k))
+        record {
+          value : record { answer = 0; count = count; book = ended l k } ≡ close b price (length ws);
+          lines_after : ws' ≡ close_words b price ws;
+          valid : Valid (ended l k);
+        }
     unfolding close_words
     done_end k same_lines =
         let kept = same_lines ∙ ap kept_from lines_told in
         let book : ended l k ≡ closed_book b d next = λ i. ended (c.result i) (kept i) in
         let same : ◌≡◌ {A = Closed} (record { answer = 0; count = count; book = ended l k }) (close_done b d next) =
-        λ i. record { answer = 0; count = c.counted i; book = book i } in (
-          same ∙ close_done_lem,
-          (
-            c.words ∙ ap (λ (x : DayEnd). written (close_lines x b.ledger) ws) same_end
-                ∙ done_by (close_refusals price (length ws) (next_day b) (force_of b)) (written (close_lines (day_end b price) b.ledger) ws) (λ k. ws) (close_at price (length ws) (next_day b) (force_of b) next q f e),
-            subst⁻¹ Valid book (closed_valid b v d ends next q),
-          ),
-        )
+        λ i. record { answer = 0; count = c.counted i; book = book i } in record {
+          value = same ∙ close_done_lem;
+          lines_after =
+              c.words ∙ ap (λ (x : DayEnd). written (close_lines x b.ledger) ws) same_end
+              ∙ done_by (close_refusals price (length ws) (next_day b) (force_of b)) (written (close_lines (day_end b price) b.ledger) ws) (λ k. ws) (close_at price (length ws) (next_day b) (force_of b) next q f e);
+          valid = subst⁻¹ Valid book (closed_valid b v d ends next q);
+        }
 
 -- a Close keeps the book valid
 pub close_valid : (b : Book) → Valid b → (price : ℕ) (ws : List ℕ) → Valid (close b price (length ws)).book

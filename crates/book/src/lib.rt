@@ -1,6 +1,7 @@
 // The book of one bond and its calls. Every call takes the book and hands it back in an answer struct, with the answer
 // number (0 is done) and the results; a refused call hands back its number, zeros and the same book.
 #![tactic(auto)]
+
 use calendar::Day;
 use instructions::Legs;
 use ledger::{Ledger, Parts, Setup};

@@ -3,7 +3,6 @@ use Prim.Native.Nat.{ℕ, ◌≤◌, ◌<◌}
 use native.Mathlib.Omega.{arith}
 use mathlib.Core.Path.{◌≡◌, refl, sym, ap, ap₂, ◌∙◌}
 use mathlib.Core.Bool.{false≢true}
-use mathlib.Core.Logic.{⊎_elim}
 use Rattle.basics.specs.Refusals.{answer}
 use Rattle.basics.proofs.Refusals.{passed, refused_with, done_by}
 use Rattle.instructions.specs.declared.Legs.{Legs}
@@ -17,8 +16,8 @@ use Rattle.book.specs.Book.{with_legs}
 use Rattle.book.specs.Instructing.{withdraw_refusals, done_refused, withdraw_done, withdraw_by, withdraw}
 use Rattle.book.proofs.Answers.{answered}
 use Rattle.book.proofs.Kept.{withdraw_valid}
-use Rattle.book.proofs.Book.withdraw.Statement.{statement}
-use Rattle.book.proofs.Book.withdraw.Tie as tie
+use Rattle.book.proofs.Book.withdraw.Goals as goal
+use Rattle.book.proofs.Book.withdraw.Goals.{else-number-eq0, then-number-eq0}
 
 -- an absent leg is refused
 absent_some : (member : ℕ) → answer (withdraw_refusals Absent member) ≡ 0 → ⊥
@@ -41,27 +40,19 @@ unfolding withdraw_by
 done_as b n member Absent e = absurd (absent_some member e)
 done_as b n member (Found l) e = done_by (withdraw_refusals (Found l) member) (withdraw_done b n) (done_refused b) e
 
-withdraw-answer-requires : tie.Need-withdraw-answer-requires
-withdraw-answer-requires c κs = c.before.requires.legs.few
+pub withdraw_answer-number-requires : goal.withdraw_answer-number-requires
+withdraw_answer-number-requires c = c.requires.legs.few
 
-set-state-requires : tie.Need-set-state-requires
-set-state-requires c κs =
-    let s = c.before.before.before in
-    there s.args.self.legs s.args.leg s.args.member s.requires.legs.few (sym c.before.withdraw-answer.ensures ∙ c.if1.true)
+pub set_state-legs-requires : goal.set_state-legs-requires
+set_state-legs-requires c =
+    there c.args.self.legs c.args.leg c.args.member c.requires.legs.few (sym c.withdraw_answer-number.ensures ∙ c.if-number-eq0.true)
 
-returns : tie.Need-returns
+pub returns : goal.returns
 unfolding withdraw
 returns c =
-    let s = c.before.before.before in
-    let a = s.args in
-    let e = sym c.before.withdraw-answer.ensures in
+    let a = c.args in
+    let e = sym c.withdraw_answer-number.ensures in
     let made : ℕ → Legs → Done = λ (k : ℕ) (legs : Legs). record { answer = k; book = with_legs legs a.self } in
     answered (λ (r : Done). r.book)
-    (⊎_elim
-    (λ w. ap₂ made w.0.taken (w.2 ∙ w.1.ensures) ∙ done_as a.self a.leg a.member _ (e ∙ w.0.taken))
-    (λ w. ap (made _) w.1 ∙ refused_as a.self a.leg a.member _ _ e w.0.left)
-    c.if1.branch)
-    (withdraw_valid _ s.requires a.leg a.member)
-
-pub withdraw_spec : {M : Type 1} → statement M
-withdraw_spec = tie.close (tie.spec withdraw-answer-requires set-state-requires returns)
+    (elim c.if-number-eq0.branch [ then-number-eq0 w ↦ ap₂ made w.if-number-eq0.true (w.legs-is ∙ w.set_state-legs.ensures) ∙ done_as a.self a.leg a.member _ (e ∙ w.if-number-eq0.true) | else-number-eq0 w ↦ ap (made _) w.legs-is ∙ refused_as a.self a.leg a.member _ _ e w.if-number-eq0.false ])
+    (withdraw_valid _ c.requires a.leg a.member)

@@ -1,0 +1,68 @@
+-- `enter` meets its contract.
+use Prim.Native.Nat.{ℕ}
+use native.Mathlib.Omega.{arith}
+use mathlib.Core.Path.{◌≡◌, sym, ap, subst⁻¹, ◌∙◌}
+use Rattle.basics.specs.Refusals.{outcome}
+use Rattle.instructions.specs.declared.Instruction.{Instruction}
+use Rattle.instructions.specs.declared.Entry.{Entry}
+use Rattle.instructions.specs.Legs.{leg_of}
+use Rattle.instructions.specs.Match.{lowest_fit}
+use Rattle.instructions.specs.Entry.{Enterable}
+use Rattle.book.specs.declared.Entered.{Entered}
+use Rattle.book.specs.Book.{with_legs, with_ledger}
+use Rattle.book.specs.Instructing.{Matchable, enter_returns, entered_by, enter_refused, enter}
+use Rattle.book.proofs.Answers.{answered}
+use Rattle.book.proofs.Kept.{Good, good, enter_valid}
+use Rattle.book.proofs.Entering.{entry_enterable, entry_matchable, entered_outcome}
+use Rattle.book.proofs.Book.enter.Goals as goal
+use Rattle.book.proofs.Book.enter.Goals.{After-enter_answer-number, Start}
+
+-- the instruction
+abbrev asked : Start → Instruction
+asked s = let a = s.args in
+    record { member = a.member; other = a.other; side = a.side; quantity = a.quantity; amount = a.amount; day = a.day }
+
+-- an instruction that is not refused
+fine : (c : After-enter_answer-number) → c.enter_answer-number.result ≡ 0 → Good c.args.self c.requires (leg_of (asked c.before.before.before.before.before))
+fine c z = good _ c.requires _ (sym c.enter_answer-number.ensures ∙ z)
+
+pub entry-entry-requires : goal.entry-entry-requires
+entry-entry-requires c = (
+  c.requires.legs.few,
+  λ z. let g = fine c z in record {
+    member_fits = omega (arith, g.member_below);
+    other_fits = omega (arith, g.other_below);
+    side_fits = omega (arith, g.side_most);
+    quantity_fits = g.quantity_within.1;
+  },
+)
+
+pub with_match-made-requires : goal.with_match-made-requires
+with_match-made-requires c =
+    subst⁻¹ (λ (e : Entry). Matchable e c.args.self.ledger) c.entry-entry.ensures (entry_matchable _ c.requires (asked c.before.before.before.before.before.before) _ (fine c.before))
+
+pub enter-all-requires : goal.enter-all-requires
+enter-all-requires c = (
+  subst⁻¹ (λ (e : Entry). Enterable e c.args.self.legs) c.entry-entry.ensures (entry_enterable _ c.requires (asked c.before.before.before.before.before.before.before) _ (fine c.before.before)),
+  omega (arith, c.requires.ledger.few),
+)
+
+pub returns : goal.returns
+unfolding enter
+returns c =
+    let b = c.args.self in
+    let i = asked c.before.before.before.before.before.before.before.before.before.before in
+    let e = c.entry-entry in
+    let number = c.enter_answer-number.result in
+    let same : ◌≡◌ {A = Entered} _ (enter_returns b number e.result) = λ j. record {
+      answer = number;
+      leg = c.leg_number.ensures j;
+      obligation = c.obligation_number.ensures j;
+      book = with_legs (c.enter-all.ensures j) (with_ledger (c.with_match-made.ensures j) b);
+    } in
+    answered (λ (r : Entered). r.book)
+    (same
+    ∙ ap (enter_returns b number) e.ensures
+    ∙ entered_outcome b i number
+    ∙ ap (λ (n : ℕ). outcome n (entered_by b (leg_of i) (lowest_fit b.legs (leg_of i))) (enter_refused b)) c.enter_answer-number.ensures)
+    (enter_valid b c.requires i.member i.other i.side i.quantity i.amount i.day)

@@ -1,0 +1,58 @@
+-- `rate` meets its contract.
+use Prim.Native.Nat.{◌<◌}
+use native.Mathlib.Omega.{arith}
+use mathlib.Core.Path.{sym, ap, subst⁻¹, ◌∙◌}
+use Rattle.basics.proofs.Refusals.{refused_with, done_by}
+use Rattle.calendar.specs.declared.StoredDay.{StoredDay}
+use Rattle.rates.specs.declared.Rates.{Rates}
+use Rattle.calendar.specs.Closed.{day_of}
+use Rattle.rates.specs.Rows.{most_rows, row_of, place_of, listed_rates, with_rate}
+use Rattle.rates.proofs.Keeping.{room_fits}
+use Rattle.refusals.proofs.Rating.{Rated, rate_given}
+use Rattle.book.specs.declared.Done.{Done}
+use Rattle.book.specs.Book.{with_rates, today_of}
+use Rattle.book.specs.Instructing.{done_refused}
+use Rattle.book.specs.Rating.{rate_done, rated}
+use Rattle.book.proofs.Answers.{answered}
+use Rattle.book.proofs.Kept.{rate_valid}
+use Rattle.book.proofs.Book.rate.Goals as goal
+use Rattle.book.proofs.Book.rate.Goals.{Else-number-ne0}
+
+-- what a Rate that is not refused was given
+given : (c : Else-number-ne0) → let a = c.args in Rated (today_of a.self) a.self.rates a.start a.rate
+given c = rate_given _ _ _ _ (sym c.rate_answer-number.ensures ∙ c.if-number-ne0.false)
+
+pub rate_answer-number-requires : goal.rate_answer-number-requires
+rate_answer-number-requires c = c.requires.rates.few
+
+pub returns-then-number-ne0 : goal.returns-then-number-ne0
+unfolding rated
+returns-then-number-ne0 c =
+    let a = c.args in
+    record {
+      value = refused_with _ _ (rate_done a.self a.start a.rate) (done_refused a.self) (sym c.rate_answer-number.ensures) c.if-number-ne0.true;
+      valid = c.requires;
+    }
+
+pub stored-requires : goal.stored-requires
+stored-requires c = (given c).start_most
+
+pub overflow_cast-rate : goal.overflow_cast-rate
+overflow_cast-rate c = record { fits = omega (arith, (given c.before).rate_most) }
+
+pub enter-rates-requires : goal.enter-rates-requires
+enter-rates-requires c =
+    let a = c.args in
+    let fits = room_fits (today_of a.self) a.self.rates c.requires.rates (row_of a.start a.rate) (given c.before).room in
+    (c.requires.rates.few, subst⁻¹ (λ (d : StoredDay). place_of (day_of d) (listed_rates a.self.rates) < most_rows) c.stored.ensures fits)
+
+pub returns : goal.returns
+unfolding rated
+returns c =
+    let a = c.args in
+    let entered = c.enter-rates.ensures ∙ ap (λ (d : StoredDay). with_rate (record { start = d; rate = a.rate }) a.self.rates) c.stored.ensures in
+    let number = sym c.rate_answer-number.ensures ∙ c.if-number-ne0.false in
+    answered (λ (r : Done). r.book)
+    (ap (λ (rates : Rates). record { answer = 0; book = with_rates rates a.self }) entered
+    ∙ done_by _ (rate_done a.self a.start a.rate) (done_refused a.self) number)
+    (rate_valid _ c.requires a.start a.rate)
