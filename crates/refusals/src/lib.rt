@@ -44,6 +44,7 @@ fn is_bad_day(closed_days: ClosedDays, today: Day, day: Day) -> bool
 }
 
 // The answer number of an instruction, in a book with these closed days, this day and this many legs.
+#[tactic(auto, unfolding(crate::specs::Calls::enter_refusals), using(basics::proofs::Refusals::pass, basics::proofs::Refusals::stop, basics::proofs::Refusals::all_passed))]
 pub fn enter_answer(closed_days: ClosedDays, today: Day, legs: usize, asked: Instruction) -> u64
     ensures { result ≡ answer (enter_refusals closed_days today legs (leg_of asked)) }
 {
@@ -66,6 +67,7 @@ pub fn enter_answer(closed_days: ClosedDays, today: Day, legs: usize, asked: Ins
 }
 
 // The answer number of a wish to cancel a fetched obligation.
+#[tactic(auto, unfolding(crate::specs::Calls::cancel_refusals_of), using(basics::proofs::Refusals::pass, basics::proofs::Refusals::stop, basics::proofs::Refusals::all_passed))]
 pub fn cancel_answer_of(found: Obligation, member: u64) -> u64
     ensures { result ≡ answer (cancel_refusals_of found member) }
 {
@@ -79,6 +81,7 @@ pub fn cancel_answer_of(found: Obligation, member: u64) -> u64
 }
 
 // The answer number of a delivery of a fetched obligation.
+#[tactic(auto, unfolding(crate::specs::Calls::deliver_refusals_of), using(basics::proofs::Refusals::pass, basics::proofs::Refusals::stop, basics::proofs::Refusals::all_passed))]
 pub fn deliver_answer_of(today: Day, found: Obligation, quantity: u64) -> u64
     ensures { result ≡ answer (deliver_refusals_of today found quantity) }
 {
@@ -92,6 +95,7 @@ pub fn deliver_answer_of(today: Day, found: Obligation, quantity: u64) -> u64
 }
 
 // The answer number of an offer by its own numbers.
+#[tactic(auto, unfolding(crate::specs::Calls::offer_refusals_in), using(basics::proofs::Refusals::pass, basics::proofs::Refusals::stop, basics::proofs::Refusals::all_passed))]
 pub fn offer_answer_in(supplier: u64, quantity: u64, price: u64) -> u64
     ensures { result ≡ answer (offer_refusals_in supplier quantity price) }
 {
@@ -143,6 +147,7 @@ fn is_bad_start(today: Day, start: Day) -> bool
 }
 
 // Whether the last place is kept for a row that has started, so that a Close can come.
+#[tactic(auto, unfolding(crate::specs::Calls::last_kept))]
 fn keeps_last(today: Day, held: Rates, start: Day) -> bool
     requires { held.count ≤ most_rows }
     ensures { result ≡ last_kept today held start }
@@ -151,6 +156,7 @@ fn keeps_last(today: Day, held: Rates, start: Day) -> bool
 }
 
 // Whether there is no place for a row with this starting day.
+#[tactic(auto, unfolding(crate::specs::Calls::no_place))]
 fn has_no_place(today: Day, held: Rates, start: Day) -> bool
     requires { held.count ≤ most_rows }
     ensures { result ≡ no_place today held start }
@@ -159,6 +165,7 @@ fn has_no_place(today: Day, held: Rates, start: Day) -> bool
 }
 
 // The answer number of a Rate, in a book with these rates and this day.
+#[tactic(auto, unfolding(crate::specs::Calls::rate_refusals), using(basics::proofs::Refusals::pass, basics::proofs::Refusals::stop, basics::proofs::Refusals::all_passed))]
 pub fn rate_answer(today: Day, held: Rates, start: Day, rate: u64) -> u64
     requires { held.count ≤ most_rows }
     ensures { result ≡ answer (rate_refusals today held start rate) }
@@ -183,6 +190,7 @@ fn is_short(words: usize) -> bool
 }
 
 // The answer number of a Close by its own numbers, with this many words lent.
+#[tactic(auto, unfolding(crate::specs::Calls::close_refusals_in), using(basics::proofs::Refusals::pass, basics::proofs::Refusals::stop, basics::proofs::Refusals::all_passed))]
 pub fn close_answer_in(price: u64, words: usize) -> u64
     ensures { result ≡ answer (close_refusals_in price words) }
 {
@@ -196,6 +204,7 @@ pub fn close_answer_in(price: u64, words: usize) -> u64
 }
 
 // The answer number of an Again, with this many words lent. `closed` says whether a Close was accepted since Open.
+#[tactic(auto, unfolding(crate::specs::Calls::again_refusals), using(basics::proofs::Refusals::pass, basics::proofs::Refusals::stop, basics::proofs::Refusals::all_passed))]
 pub fn again_answer(closed: bool, words: usize) -> u64
     ensures { result ≡ answer (again_refusals closed words) }
 {
