@@ -59,8 +59,7 @@ pub fn start() -> Flow
 
 // Writes a piece of text. A write that a signal interrupts before it has taken a byte counts as one that failed, so it is
 // not tried again.
-fn write_all(to: Stdout, text: &[u8]) -> io::Result<()> {
-    let mut output = to;
+fn write_all(mut output: Stdout, text: &[u8]) -> io::Result<()> {
     let mut done = 0;
     while done < text.len() {
         match output.write(&text[done..]) {

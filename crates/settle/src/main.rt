@@ -153,13 +153,15 @@ fn play(streams: Streams) {
 
 // Says where the journal is read from, where its format is described, what the program was proved with, and which
 // edition of the rules it follows.
-fn say_about(to: Stdout) -> io::Result<()> {
-    println!(to; "settle takes no file. It reads a journal from standard input:")?;
-    println!(to; "    settle < FILE")?;
-    println!(to; "It writes the answers to standard output. With any argument it plays nothing.")?;
-    println!(to; "format: docs/JOURNAL.md; in the operations room: docs/OPERATIONS.md")?;
-    println!(to; "proved with: rattle-kit-13f logic dac8208d650f15bf")?;
-    println!(to; "rules: edition {}", calls::EDITION)
+fn say_about(output: Stdout) -> io::Result<()> {
+    println!(output; "settle takes no file. It reads a journal from standard input:")?;
+    println!(output; "    settle < FILE")?;
+    println!(output;
+        "It writes the answers to standard output. With any argument it plays nothing."
+    )?;
+    println!(output; "format: docs/JOURNAL.md; in the operations room: docs/OPERATIONS.md")?;
+    println!(output; "proved with: rattle-kit-13f logic dac8208d650f15bf")?;
+    println!(output; "rules: edition {}", calls::EDITION)
 }
 
 // Says what the program is. If that cannot be written, it prints the system's reason on standard error. `.ci/edges` says
