@@ -88,6 +88,7 @@ pub fn write_out(streams: Streams, out: &[u8], end: usize) -> bool
 }
 
 // What a read brought, by what the system answered. A count is never more than the buffer has places for.
+#[tactic(auto, unfolding(crate::specs::Flow::answered, crate::specs::Flow::read_of))]
 fn read_as(got: io::Result<usize>, part: &[u8]) -> Read
     ensures { result ≡ read_of (answered got) (length part.now) }
 {
