@@ -11,6 +11,7 @@ use crate::compared;
 use book::Book;
 use calendar::Day;
 use ledger::{FEWEST_WORDS, WORDS_IN_LINE};
+use std::io::Stdout;
 
 // The book of an Open on day 2, without closed days and by terms 1.
 fn opened() -> Book
@@ -81,17 +82,17 @@ fn in_buy_in(price: u64) -> Book
 }
 
 // Example 4: two offers over a Close at 99,999.
-pub fn cap() -> u64
+pub fn cap(output: Stdout) -> u64
     ensures { result ≡ 0 }
 {
     let taken = in_buy_in(99_999).offer(0, 7, 5, 107_998);
     let after = taken.book;
     let refused = after.offer(0, 7, 5, 107_999);
-    compared(4, taken.answer, 0) + compared(4, refused.answer, 18)
+    compared(output, 4, taken.answer, 0) + compared(output, 4, refused.answer, 18)
 }
 
 // A leg that delivers, and then three that receive: the first finds no match, the second is refused, the third matches.
-fn one_of_three(item: u64, delivering: u64, above: u64, most: u64) -> u64
+fn one_of_three(output: Stdout, item: u64, delivering: u64, above: u64, most: u64) -> u64
     requires { match_played delivering above most ≡ accepted 1 ++ one_of_three }
     ensures { result ≡ 0 }
 {
@@ -102,22 +103,22 @@ fn one_of_three(item: u64, delivering: u64, above: u64, most: u64) -> u64
     let refused = two.enter(1, 0, 1, 10, 0, Day(2));
     let same = refused.book;
     let matched = same.enter(1, 0, 1, 10, most, Day(2));
-    compared(item, alone.answer, 0)
-        + compared(item, alone.obligation, 0)
-        + compared(item, refused.answer, 3)
-        + compared(item, matched.obligation, 1)
+    compared(output, item, alone.answer, 0)
+        + compared(output, item, alone.obligation, 0)
+        + compared(output, item, refused.answer, 3)
+        + compared(output, item, matched.obligation, 1)
 }
 
 // Examples 5 and 6: an Enter that finds no match, one that is refused, and one that matches.
-pub fn tolerance() -> u64
+pub fn tolerance(output: Stdout) -> u64
     ensures { result ≡ 0 }
 {
-    one_of_three(5, 10_000_000, 10_000_201, 10_000_200)
-        + one_of_three(6, 10_000_001, 10_002_502, 10_002_501)
+    one_of_three(output, 5, 10_000_000, 10_000_201, 10_000_200)
+        + one_of_three(output, 6, 10_000_001, 10_002_502, 10_002_501)
 }
 
 // Example 7: three Delivers, one after another.
-pub fn deliveries() -> u64
+pub fn deliveries(output: Stdout) -> u64
     ensures { result ≡ 0 }
 {
     let sold = with_sale(opened(), 2, 0, 1, 3, 1_000);
@@ -126,7 +127,9 @@ pub fn deliveries() -> u64
     let second = one.deliver(0, 1);
     let two = second.book;
     let third = two.deliver(0, 1);
-    compared(7, first.cash, 333) + compared(7, second.cash, 333) + compared(7, third.cash, 334)
+    compared(output, 7, first.cash, 333)
+        + compared(output, 7, second.cash, 333)
+        + compared(output, 7, third.cash, 334)
 }
 
 // A book with one more offer for obligation 0.
@@ -140,18 +143,26 @@ fn with_offer(book: Book, supplier: u64, quantity: u64, price: u64) -> Book
 }
 
 // Compares supplier, quantity and cents in a line of a Close's list with the settled ones. The first line has number 0.
-fn bought(item: u64, lines: &[u64], line: usize, supplier: u64, quantity: u64, cents: u64) -> u64
+fn bought(
+    output: Stdout,
+    item: u64,
+    lines: &[u64],
+    line: usize,
+    supplier: u64,
+    quantity: u64,
+    cents: u64,
+) -> u64
     requires { (line < most_lines) × (length lines.now ≡ fewest_words) × (bought_at line lines.now ≡ supplier ∷ quantity ∷ cents ∷ []) }
     ensures { result ≡ 0 }
 {
     let at = WORDS_IN_LINE * line;
-    compared(item, lines[at + 4], supplier)
-        + compared(item, lines[at + 2], quantity)
-        + compared(item, lines[at + 3], cents)
+    compared(output, item, lines[at + 4], supplier)
+        + compared(output, item, lines[at + 2], quantity)
+        + compared(output, item, lines[at + 3], cents)
 }
 
 // Example 10: three offers, and the lines of the Close of their day.
-pub fn auction() -> u64
+pub fn auction(output: Stdout) -> u64
     ensures { result ≡ 0 }
 {
     let first = with_offer(in_buy_in(100_000), 1, 7, 101_000);
@@ -159,20 +170,20 @@ pub fn auction() -> u64
     let third = with_offer(second, 3, 7, 101_000);
     let mut lines = [0u64; FEWEST_WORDS];
     let closed = third.close(100_000, &mut lines);
-    compared(10, closed.count as u64, 3)
-        + bought(10, &lines, 1, 2, 5, 2_500)
-        + bought(10, &lines, 2, 1, 5, 5_000)
+    compared(output, 10, closed.count as u64, 3)
+        + bought(output, 10, &lines, 1, 2, 5, 2_500)
+        + bought(output, 10, &lines, 2, 1, 5, 5_000)
 }
 
 // Example 14: two offers at one price, of which the Close takes the earlier.
-pub fn equal_prices() -> u64
+pub fn equal_prices(output: Stdout) -> u64
     ensures { result ≡ 0 }
 {
     let first = with_offer(in_buy_in(100_000), 1, 10, 101_000);
     let second = with_offer(first, 2, 12, 101_000);
     let mut lines = [0u64; FEWEST_WORDS];
     let closed = second.close(100_000, &mut lines);
-    compared(14, closed.count as u64, 2) + bought(14, &lines, 1, 1, 10, 10_000)
+    compared(output, 14, closed.count as u64, 2) + bought(output, 14, &lines, 1, 1, 10, 10_000)
 }
 
 // The book of the Open with a rate of 10 and two sales of member 3, after the Close of their day.
@@ -194,7 +205,7 @@ fn closed_once() -> Book
 }
 
 // Example 11: a Close with two lines, a Month, and an Again, which gives the same two lines.
-pub fn reprint() -> u64
+pub fn reprint(output: Stdout) -> u64
     ensures { result ≡ 0 }
 {
     let mut collected = [0u64; 32];
@@ -204,11 +215,13 @@ pub fn reprint() -> u64
     let after = paid.book;
     let mut lines = [0u64; FEWEST_WORDS];
     let shown = after.again(&mut lines);
-    compared(11, shown.count as u64, 2) + compared(11, lines[3], 200) + compared(11, lines[9], 100)
+    compared(output, 11, shown.count as u64, 2)
+        + compared(output, 11, lines[3], 200)
+        + compared(output, 11, lines[9], 100)
 }
 
 // Example 12: on the same book, a Month that collects all that member 3 owes, and a Month for which everybody paid.
-pub fn everybody_paid() -> u64
+pub fn everybody_paid(output: Stdout) -> u64
     ensures { result ≡ 0 }
 {
     let mut collected = [0u64; 32];
@@ -218,10 +231,10 @@ pub fn everybody_paid() -> u64
     let none = [0u64; 0];
     let mut empty = [7u64; 32];
     closed_once().month(&none, &mut empty);
-    compared(12, typed[0], 200)
-        + compared(12, empty[0], 200)
-        + compared(12, typed[1], 100)
-        + compared(12, empty[1], 100)
+    compared(output, 12, typed[0], 200)
+        + compared(output, 12, empty[0], 200)
+        + compared(output, 12, typed[1], 100)
+        + compared(output, 12, empty[1], 100)
 }
 
 // The book of example 15: it opens on day 6 with two rates, which were entered in falling order of their starting days.
@@ -240,7 +253,7 @@ fn on_friday() -> Book
 }
 
 // Example 15: the penalties of a Friday and of the Monday after it, between which another rate starts.
-pub fn starting_days() -> u64
+pub fn starting_days(output: Stdout) -> u64
     ensures { result ≡ 0 }
 {
     let mut lines = [0u64; FEWEST_WORDS];
@@ -248,7 +261,7 @@ pub fn starting_days() -> u64
     let monday = friday.book;
     let mut later = [0u64; FEWEST_WORDS];
     let closed = monday.close(100_000, &mut later);
-    compared(15, lines[3], 1_000)
-        + compared(15, closed.count as u64, 1)
-        + compared(15, later[3], 2_000)
+    compared(output, 15, lines[3], 1_000)
+        + compared(output, 15, closed.count as u64, 1)
+        + compared(output, 15, later[3], 2_000)
 }

@@ -1,6 +1,6 @@
 -- Bytes in and out: how far the input and the output have come, and what reads and writes do to them. The operating
 -- system decides which bytes a read brings and whether a write succeeds (docs/JOURNAL.md, Input and output).
-use Rattle.std.specs.Prelude.{ℕ, zero, suc, ◌-◌, ◌≤◌, min, ◌≡◌, true, false, List, leb, ℤ, pos, negsuc, length}
+use Rattle.std.specs.Prelude.{ℕ, zero, suc, ◌-◌, ◌≤◌, min, ◌≡◌, true, false, List, leb, ℤ, pos, negsuc, length, Result, Ok, Err}
 use Rattle.std.proofs.lemmas.List.Edits.{sets}
 use Rattle.lines.specs.declared.Feed.{Feed}
 use Rattle.lines.specs.declared.Taken.{Taken}
@@ -21,6 +21,12 @@ flow_at feed end course = record { feed = feed; end = end; course = course }
 -- the flow before anything is read or written
 abbrev pub at_start : Flow
 at_start = flow_at input.at_start 0 Going
+
+-- The number by which the system answered a read, as the library hands it on: as a count of bytes, or as an error, which
+-- stands for a number below zero.
+unfoldable pub answered : {E : Type 0} → Result ℕ E → ℤ
+answered (Ok n) = pos n
+answered (Err e) = negsuc 0
 
 -- What a read brought, by the number that the system answered. Below zero the read failed, at zero the input is over,
 -- and any other number says how many bytes were read. They are never more than the buffer has places for.

@@ -3,12 +3,21 @@
 ghost use Rattle.std.specs.Prelude.{◌≡◌, ◌+◌, ◌≤◌, length, take};
 ghost use Rattle.writing.specs.Answers.{Wrote};
 ghost use Rattle.answers.specs.Text.{most_answer, Tellable, answer_text};
-ghost use Rattle.settle.specs.Flow.{at_start, read_of, failed_from, ReadOn, FedOn, TakenOn, ToldOn};
+ghost use Rattle.settle.specs.Flow.{at_start, answered, read_of, failed_from, ReadOn, FedOn, TakenOn, ToldOn};
 ghost use Rattle.settle.specs.Ending.{torn_text, over_text, last_text};
 
 use answers::{Answer, MOST_ANSWER};
-use libc::{STDIN_FILENO, STDOUT_FILENO};
 use lines::{Feed, Taken};
+use std::io;
+use std::io::{ErrorKind, Read as _, Stderr, Stdin, Stdout, Write};
+
+// The streams of the process: the journal comes in, the answers go out, and what failed is told.
+#[derive(Clone, Copy)]
+pub struct Streams {
+    pub journal: Stdin,
+    pub answers: Stdout,
+    pub failures: Stderr,
+}
 
 // How the run goes.
 #[derive(Clone, Copy)]
@@ -48,29 +57,53 @@ pub fn start() -> Flow
     }
 }
 
-// Hands the answers so far to the system, and answers whether all of them were written. If not, it prints the system's
-// reason on standard error.
-pub fn write_out(out: &[u8], end: usize) -> bool
-    requires { end ≤ length out.now }
-{
-    if io::write_all(STDOUT_FILENO, &out[..end]) {
-        return true;
+// Writes a piece of text. A write that a signal interrupts before it has taken a byte counts as one that failed, so it is
+// not tried again.
+fn write_all(mut output: Stdout, text: &[u8]) -> io::Result<()> {
+    let mut done = 0;
+    while done < text.len() {
+        match output.write(&text[done..]) {
+            Ok(0) => return Err(io::Error::from(ErrorKind::WriteZero)),
+            Ok(count) => done += count,
+            Err(reason) => return Err(reason),
+        }
     }
-    os::fail(b"settle: the answers could not be written");
-    false
+    Ok(())
 }
 
-// What a read brought, by the number that the system answered.
-fn read_as(got: isize, part: &[u8]) -> Read
-    ensures { result ≡ read_of got (length part.now) }
+// Hands the answers so far to the system, and answers whether all of them were written. If not, it prints the system's
+// reason on standard error.
+pub fn write_out(streams: Streams, out: &[u8], end: usize) -> bool
+    requires { end ≤ length out.now }
 {
-    if got < 0 {
-        return Read::Error;
+    match write_all(streams.answers, &out[..end]) {
+        Ok(()) => true,
+        Err(reason) => {
+            let _ = eprintln!(streams.failures;
+                "settle: the answers could not be written: {reason}"
+            );
+            false
+        }
     }
-    if 0 < got {
-        return Read::Bytes(io::count(got, part));
+}
+
+// What a read brought, by what the system answered. A count is never more than the buffer has places for.
+#[tactic(auto, unfolding(crate::specs::Flow::answered, crate::specs::Flow::read_of))]
+fn read_as(got: io::Result<usize>, part: &[u8]) -> Read
+    ensures { result ≡ read_of (answered got) (length part.now) }
+{
+    match got {
+        Ok(0) => Read::Nothing,
+        Ok(count) => Read::Bytes(count.min(part.len())),
+        Err(_) => Read::Error,
     }
-    Read::Nothing
+}
+
+// Prints on standard error why a read failed.
+fn tell_unread(streams: Streams, got: io::Result<usize>) {
+    if let Err(reason) = got {
+        let _ = eprintln!(streams.failures; "settle: the journal could not be read: {reason}");
+    }
 }
 
 // The run has failed: no more of the bytes that were read are taken, and no answer waits to be written.
@@ -84,11 +117,13 @@ fn failed(feed: Feed) -> Flow
     }
 }
 
-// Reads more of the input. If the read fails, it prints the system's reason on standard error.
-fn read_on(feed: Feed, part: &mut [u8]) -> Flow
+// Reads more of the input. If the read fails, it prints the system's reason on standard error. A read that a signal
+// interrupts before it has brought a byte counts as one that failed.
+fn read_on(streams: Streams, feed: Feed, part: &mut [u8]) -> Flow
     ensures { ReadOn feed part.new result }
 {
-    let got = libc::read(STDIN_FILENO, part);
+    let mut journal = streams.journal;
+    let got = journal.read(part);
     match read_as(got, part) {
         Read::Bytes(count) => Flow {
             feed: feed.filled(count),
@@ -101,7 +136,7 @@ fn read_on(feed: Feed, part: &mut [u8]) -> Flow
             course: Course::Over,
         },
         Read::Error => {
-            os::fail(b"settle: the journal could not be read");
+            tell_unread(streams, got);
             failed(feed)
         }
     }
@@ -110,21 +145,21 @@ fn read_on(feed: Feed, part: &mut [u8]) -> Flow
 // Makes ready for the next bytes of a line. If all that was read is used up, it writes the answers so far and reads
 // more. If there is no room for the longest answer, it writes the answers so far. This comes before a line is played,
 // so that there is always room for the line's answer, and no line is played after a write that failed.
-pub fn feed_on(flow: Flow, part: &mut [u8], out: &[u8]) -> Flow
+pub fn feed_on(streams: Streams, flow: Flow, part: &mut [u8], out: &[u8]) -> Flow
     requires { (flow.end ≤ length out.now) × (most_answer ≤ length out.now) }
     ensures { FedOn flow (length out.now) part.old part.new result }
 {
     let feed = flow.feed;
     if feed.is_used_up() {
-        if write_out(out, flow.end) {
-            return read_on(feed, part);
+        if write_out(streams, out, flow.end) {
+            return read_on(streams, feed, part);
         }
         return failed(feed);
     }
     if flow.end <= out.len() - MOST_ANSWER {
         return flow;
     }
-    if write_out(out, flow.end) {
+    if write_out(streams, out, flow.end) {
         return Flow {
             feed: feed,
             end: 0,

@@ -2,15 +2,19 @@
 // at a time, so its memory does not grow with the journal. Whenever its input is used up, it writes all answers so far.
 // With an argument on its command line it says what it is and plays nothing.
 #![tactic(auto)]
+
 ghost use Rattle.std.specs.Prelude.{◌≡◌, ◌<◌, ◌-◌, ◌≤◌, length};
 ghost use Rattle.settle.specs.Turns.{Buffers, begins, turns_left};
 ghost use Rattle.settle.specs.Ending.{PlaysIn};
 
 use answers::Answer;
 use calendar::Day;
-use flow::Course;
-use libc::STDOUT_FILENO;
+use flow::{Course, Streams};
 use reading::{Line, Name};
+use std::env::FillError;
+use std::io;
+use std::io::Stdout;
+use std::rt::Env;
 
 mod calls;
 mod flow;
@@ -33,6 +37,7 @@ fn turns_left(turns: u64, course: Course) -> u64
 // result is the number of bytes of the output that are still to be written. If the whole journal was played, they end
 // with the line `end`.
 fn settle_all(
+    streams: Streams,
     part: &mut [u8],
     line: &mut [u8],
     numbers: &mut [u64],
@@ -48,7 +53,7 @@ fn settle_all(
     let mut flow = flow::start();
     let mut played = calls::before_all();
     while 0 < turns {
-        let fed = flow::feed_on(flow, part, out);
+        let fed = flow::feed_on(streams, flow, part, out);
         let taken = flow::take(fed, part, line);
         let a = calls::ask(taken, line, numbers);
         let kind = a.line;
@@ -80,6 +85,15 @@ fn settle_all(
         turns = turns_left(turns, course);
     }
     flow::tell_last(flow, line, out)
+}
+
+// Places for the bytes of one read.
+const READ_PLACES: usize = 65_536;
+
+fn read_places() -> [u8; READ_PLACES]
+    ensures { 65536 ≡ length result }
+{
+    [0; READ_PLACES]
 }
 
 // Places for the bytes of a line. There is one more than a call's line may have bytes, so that a line that is too long
@@ -120,42 +134,65 @@ fn answer_places() -> [u8; ANSWER_PLACES]
 }
 
 // Plays the journal, and writes what is left of the output.
-fn play() {
-    let mut part = io::large_buffer();
+fn play(streams: Streams) {
+    let mut part = read_places();
     let mut line = line_places();
     let mut numbers = number_places();
     let mut words = word_places();
     let mut out = answer_places();
-    let end = settle_all(&mut part, &mut line, &mut numbers, &mut words, &mut out);
-    flow::write_out(&out, end);
-}
-
-// Writes a piece of text, and answers whether it was written.
-fn say(text: &[u8]) -> bool {
-    io::write_all(STDOUT_FILENO, text)
+    let end = settle_all(
+        streams,
+        &mut part,
+        &mut line,
+        &mut numbers,
+        &mut words,
+        &mut out,
+    );
+    flow::write_out(streams, &out, end);
 }
 
 // Says where the journal is read from, where its format is described, what the program was proved with, and which
-// edition of the rules it follows. `.ci/edges` says so if the kit that is named here is not that of the toolchain at hand.
-fn tell_about() {
-    let said = say(
-        b"settle takes no file. It reads a journal from standard input:\n    settle < FILE\n",
-    ) && say(b"It writes the answers to standard output. With any argument it plays nothing.\n")
-        && say(b"format: docs/JOURNAL.md; in the operations room: docs/OPERATIONS.md\n")
-        && say(b"proved with: rattle-kit-5b-plain logic 097e4c862dff5811\n")
-        && say(b"rules: edition ")
-        && io::print_decimal(STDOUT_FILENO, calls::EDITION)
-        && say(b"\n");
-    if said {
-        return;
-    }
-    os::fail(b"settle: this text could not be written");
+// edition of the rules it follows.
+fn say_about(output: Stdout) -> io::Result<()> {
+    println!(output; "settle takes no file. It reads a journal from standard input:")?;
+    println!(output; "    settle < FILE")?;
+    println!(output;
+        "It writes the answers to standard output. With any argument it plays nothing."
+    )?;
+    println!(output; "format: docs/JOURNAL.md; in the operations room: docs/OPERATIONS.md")?;
+    println!(output; "proved with: rattle-kit-13f logic dac8208d650f15bf")?;
+    println!(output; "rules: edition {}", calls::EDITION)
 }
 
-fn main() {
-    if 1 < os::arg_count() {
-        tell_about();
+// Says what the program is. If that cannot be written, it prints the system's reason on standard error. `.ci/edges` says
+// so if the kit that is named here is not that of the toolchain at hand.
+fn tell_about(streams: Streams) {
+    if let Err(reason) = say_about(streams.answers) {
+        let _ = eprintln!(streams.failures; "settle: this text could not be written: {reason}");
+    }
+}
+
+// Whether there is an argument on the command line after the program's name. Only an argument that is not there has
+// `NotPresent` as its answer: one that is there may be longer than its place.
+fn has_arguments(rt: &impl Env) -> bool {
+    let mut place = [0u8; 1];
+    match rt.arg(1, &mut place) {
+        Err(FillError::NotPresent) => false,
+        _ => true,
+    }
+}
+
+// The exit status is 0 even if a read or a write failed. Whether the whole journal was played and answered is told by
+// the line `end` alone.
+fn main(rt: HostRuntime) {
+    let streams = Streams {
+        journal: rt.stdin(),
+        answers: rt.stdout(),
+        failures: rt.stderr(),
+    };
+    if has_arguments(&rt) {
+        tell_about(streams);
         return;
     }
-    play();
+    play(streams);
 }
