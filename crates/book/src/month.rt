@@ -13,6 +13,7 @@ impl Book {
         ensures value { result ≡ month self collected.now (length payouts.old) }
         ensures payouts_after { payouts.new ≡ month_words self collected.now payouts.old }
         ensures valid { Valid result.book }
+        ensures collected_stays { collected.exit.now ≡ collected.entry.now }
     {
         let ledger = self.ledger;
         let accounts = ledger.accounts;

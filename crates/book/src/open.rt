@@ -62,6 +62,7 @@ impl Book {
     pub fn open(first: Day, closed: &[u64], terms: u64) -> Opened
         ensures value { result ≡ opened first closed.now terms }
         ensures valid { Valid result.book }
+        ensures closed_stays { closed.exit.now ≡ closed.entry.now }
     {
         if 1 < terms {
             return Opened {

@@ -57,7 +57,8 @@ fn is_rising(days: &[u64]) -> bool
 
 // Whether a list of closed days is refused.
 pub fn refuses_closed(days: &[u64]) -> bool
-    ensures { result ≡ closed_refused days.now }
+    ensures value { result ≡ closed_refused days.now }
+    ensures days_stay { days.exit.now ≡ days.entry.now }
 {
     MOST_CLOSED < days.len() || !is_rising(days)
 }
@@ -104,7 +105,8 @@ impl ClosedDays {
     // The closed days of a list.
     pub fn of(list: &[u64]) -> ClosedDays
         requires { length list.now ≤ most_closed }
-        ensures { result ≡ closed_days list.now }
+        ensures value { result ≡ closed_days list.now }
+        ensures list_stays { list.exit.now ≡ list.entry.now }
     {
         let mut days = [Day(0); MOST_CLOSED];
         let mut i = 0;

@@ -24,7 +24,8 @@ fn are_bad_lists(collected: usize, places: usize) -> bool
 // Returns what a member paid: its amount in the list, or what it owes if the list is empty.
 fn amount_of(accounts: [i64; MEMBER_COUNT], list: &[u64], m: usize) -> u64
     requires { (Bounded accounts) × (m < member_count) × (bad_amounts (length list.now) ≡ false) }
-    ensures { result ≡ get_or (amounts_paid (debts accounts) list.now) m 0 }
+    ensures value { result ≡ get_or (amounts_paid (debts accounts) list.now) m 0 }
+    ensures list_stays { list.exit.now ≡ list.entry.now }
 {
     if list.len() == 0 {
         let account = accounts[m];
@@ -86,6 +87,7 @@ pub fn settle_month(
     requires { (Bounded accounts) × (balance accounts ≡ pos 0) }
     ensures value { result ≡ month_answer_by accounts since collected.now (length places.old) }
     ensures places_after { places.new ≡ paid_out accounts since collected.now places.old }
+    ensures collected_stays { collected.exit.now ≡ collected.entry.now }
 {
     if are_bad_lists(collected.len(), places.len()) {
         return 5;

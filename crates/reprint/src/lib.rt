@@ -84,7 +84,8 @@ impl LastClose {
     // Keeps the first count lines of a list of words.
     pub fn of(lines: &[u64], count: usize) -> LastClose
         requires { Keepable count lines.now }
-        ensures { result ≡ kept_from (lines_read count lines.now) }
+        ensures value { result ≡ kept_from (lines_read count lines.now) }
+        ensures lines_stay { lines.exit.now ≡ lines.entry.now }
     {
         let mut rows = [NO_LINE; MOST_LINES];
         let mut i = 0;

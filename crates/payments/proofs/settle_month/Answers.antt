@@ -76,4 +76,5 @@ returns c =
       value = sym e;
       places_after =
           c.pay.ensures ∙ c.shares_of-shares.ensures ∙ ap (λ (n : ℕ). shares n (claims a.accounts)) all ∙ done_by _ _ (λ k. a.places.now) e;
+      collected_stays = refl;
     }

@@ -73,4 +73,4 @@ returns c =
     let same_end : let a = c.args in
     ◌≡◌ {A = DayEnd} (record { setup = a.self.setup; today = today_of a.self; price = a.price; rate = c.in-Since.row.rate }) (day_end a.self a.price) = let a = c.args in
     λ i. record { setup = a.self.setup; today = today_of a.self; price = a.price; rate = rate_of (sym in_force i) } in
-    done_end _ c.requires _ _ passes _ next_day is_set _ same_end _ _ _ c.close-done.ensures _ c.of-kept.ensures
+    done_end _ c.requires _ _ passes _ next_day is_set _ same_end _ _ _ c.close-done.ensures _ c.of-kept.ensures.value

@@ -1,5 +1,5 @@
 -- `month` meets its contract.
-use mathlib.Core.Path.{sym, subst, ◌∙◌}
+use mathlib.Core.Path.{refl, sym, subst, ◌∙◌}
 use Rattle.basics.proofs.Refusals.{done_by, refused_with}
 use Rattle.book.proofs.Paid.{accounts_bounded, paid_valid}
 use Rattle.book.specs.Month.{paid_day, month}
@@ -20,6 +20,7 @@ returns-then-number-eq0 c = let e = c.settle_month-number.ensures in let b = c.a
       value = (λ i. record { answer = zero i; book = after (c.clear-after.ensures i) }) ∙ done_by _ _ (done_refused b) (sym e.value ∙ zero);
       payouts_after = e.places_after;
       valid = subst (λ (l : Ledger). Valid (after l)) (sym c.clear-after.ensures) (paid_valid b c.requires);
+      collected_stays = refl;
     }
 
 pub returns-else-number-eq0 : goal.returns-else-number-eq0
@@ -29,4 +30,5 @@ returns-else-number-eq0 c = let e = c.settle_month-number.ensures in
       value = refused_with _ _ _ (done_refused c.args.self) (sym e.value) c.if-number-eq0.false;
       payouts_after = e.places_after;
       valid = c.requires;
+      collected_stays = refl;
     }

@@ -7,4 +7,4 @@ use Rattle.book.proofs.Book.refused.Goals as goal
 
 pub returns : goal.returns
 unfolding refused_book
-returns c = c.fresh.ensures ∙ ap (λ (k : ClosedDays). fresh_book (day 2) k 0) c.of.ensures
+returns c = c.fresh.ensures ∙ ap (λ (k : ClosedDays). fresh_book (day 2) k 0) c.of.ensures.value

@@ -44,8 +44,8 @@ loop-i-preserved c =
       ap (set rows i) c.line_at-row.ensures ∙ kept_more ws i rows (omega (arith, more, c.requires.few)) c.loop-i.invariant.1,
     )
 
-pub returns : goal.returns
-returns c =
+pub returns-clause-value : goal.returns-clause-value
+returns-clause-value c =
     let ws = c.args.lines.now in
     let count = c.args.count in
     let all = le_antisymm c.loop-i.invariant.0 c.loop-i-test.false in
