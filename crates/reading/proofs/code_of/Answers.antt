@@ -53,7 +53,7 @@ loop-left-preserved c =
     let next : now.left - 1 + 1 ≡ now.left = omega arith in (
       now.invariant.0,
       omega arith,
-      letters_more word (now.left - 1) here c.if-letter-lt97.false (is_letter c) (rw next now.invariant.2),
+      letters_more word (now.left - 1) here (omega arith) (is_letter c) (rw next now.invariant.2),
       sym (digits_more word (now.left - 1) here ∙ rw (next, now.invariant.3)),
     )
 

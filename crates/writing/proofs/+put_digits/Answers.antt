@@ -6,14 +6,14 @@ use Rattle.writing.proofs.Writing.{wrote_then, wrote_length}
 use Rattle.writing.proofs.+put_digits.Goals as goal
 
 pub put_digit-requires : goal.put_digit-requires
-put_digit-requires t c = (c.if-n-lt10.true, omega (arith, ap length (digits_one _ c.if-n-lt10.true)))
+put_digit-requires t c = (omega arith, omega (arith, ap length (digits_one c.args.n (omega arith))))
 
 pub returns-then-n-lt10 : goal.returns-then-n-lt10
 returns-then-n-lt10 t c = rw (digits_one _ c.if-n-lt10.true) c.put_digit.ensures
 
 pub put_pair-requires : goal.put_pair-requires
 put_pair-requires t c =
-    (c.if-n-lt100.true, omega (arith, ap length (digits_pair _ c.if-n-lt10.false c.if-n-lt100.true)))
+    (omega arith, omega (arith, ap length (digits_pair c.args.n (omega arith) (omega arith))))
 
 pub returns-then-n-lt100 : goal.returns-then-n-lt100
 returns-then-n-lt100 t c = rw (digits_pair _ c.if-n-lt10.false c.if-n-lt100.true) c.put_pair.ensures

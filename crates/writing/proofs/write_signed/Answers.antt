@@ -1,6 +1,7 @@
 -- `write_signed` meets its contract: the machine computes how far the number is from zero, and its digits leave room
 -- for the sign.
 use native.Mathlib.Omega.{arith}
+use borrow.Author.Rules.{rules}
 use lib.ListN.{length-set}
 use Rattle.writing.proofs.Writing.{wrote_one, wrote_then}
 use Rattle.writing.proofs.Signed.{less_fits, less_above, size_fits, size_most, text_negative, same_fits, same_most, text_same}
@@ -10,8 +11,7 @@ pub overflow_sub-less : goal.overflow_sub-less
 overflow_sub-less c = less_fits c.args.z c.ranges.z c.if-z-lt0.true
 
 pub overflow_cast-less : goal.overflow_cast-less
-overflow_cast-less c =
-    less_above c.args.z c.ranges.z c.if-z-lt0.true
+overflow_cast-less c = less_above c.args.z c.ranges.z (search rules)
 
 pub overflow_add-less : goal.overflow_add-less
 overflow_add-less c =

@@ -1,4 +1,5 @@
 -- `tell` meets its contract: in each arm the answer was written as its form says.
+use borrow.Author.Rules.{rules}
 use Rattle.writing.proofs.Writing.{wrote_none}
 use Rattle.answers.specs.Text.{text_in}
 use Rattle.answers.proofs.Tells.{wrote_in}
@@ -22,8 +23,8 @@ returns-in-Balance c = wrote_in c.args.self _ _ _ c.in-Balance.is c.tell_balance
 
 pub returns-in-Closed : goal.returns-in-Closed
 unfolding text_in
-returns-in-Closed c = wrote_in c.args.self _ _ _ c.in-Closed.is c.tell_closed.ensures
+returns-in-Closed c = wrote_in c.args.self _ _ _ c.in-Closed.is (search rules)
 
 pub returns-in-Words : goal.returns-in-Words
 unfolding text_in
-returns-in-Words c = wrote_in c.args.self _ _ _ c.in-Words.is c.tell_words.ensures
+returns-in-Words c = wrote_in c.args.self _ _ _ c.in-Words.is (search rules)

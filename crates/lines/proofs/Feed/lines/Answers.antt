@@ -1,4 +1,5 @@
 -- `lines` meets its contract.
+use native.Mathlib.Omega.{arith}
 use borrow.Author.Tests.{lt-ltb, le-ltb}
 use Rattle.lines.specs.Input.{lines_of}
 use Rattle.lines.proofs.Feed.lines.Goals as goal
@@ -9,4 +10,4 @@ returns-then-self-gt0 c = rw (lt-ltb _ _ c.if-self-gt0.true) c.one_more.ensures
 
 pub returns : goal.returns
 unfolding lines_of
-returns c = rw (le-ltb _ _ c.if-self-gt0.false)
+returns c = rw (le-ltb 0 c.args.self.held (omega arith))
