@@ -16,7 +16,7 @@ pub returns-then-are_bad_lists : goal.returns-then-are_bad_lists
 unfolding month_refusals paid_out
 returns-then-are_bad_lists c =
     let e = stop 5 _ (sym c.are_bad_lists.ensures ∙ c.if-are_bad_lists.true) in
-    record { value = sym e; places_after = refused_by 5 _ _ (λ k. c.args.places.now) e refl }
+    record { value = sym e; places_after = refused_by 5 _ _ (λ k. c.args.places.now) e refl; collected_stays = refl }
 
 pub amounts_of-amounts-requires : goal.amounts_of-amounts-requires
 amounts_of-amounts-requires c =
@@ -29,7 +29,7 @@ returns-then-is_over c =
     let good = sym c.are_bad_lists.ensures ∙ c.if-are_bad_lists.false in
     let over = sym (c.is_over.ensures ∙ ap (over_collected _) c.amounts_of-amounts.ensures ∙ over_paid _ _) ∙ c.if-is_over.true in
     let e = pass 5 _ good ∙ stop 19 _ over in
-    record { value = sym e; places_after = refused_by 19 _ _ (λ k. c.args.places.now) e refl }
+    record { value = sym e; places_after = refused_by 19 _ _ (λ k. c.args.places.now) e refl; collected_stays = refl }
 
 pub returns-then-not-since : goal.returns-then-not-since
 unfolding month_refusals paid_out
@@ -37,7 +37,7 @@ returns-then-not-since c =
     let good = sym c.are_bad_lists.ensures ∙ c.if-are_bad_lists.false in
     let covered = sym (c.is_over.ensures ∙ ap (over_collected _) c.amounts_of-amounts.ensures ∙ over_paid _ _) ∙ c.if-is_over.false in
     let e = pass 5 _ good ∙ pass 19 _ covered ∙ stop 21 _ (rw c.if-not-since.true) in
-    record { value = sym e; places_after = refused_by 21 _ _ (λ k. c.args.places.now) e refl }
+    record { value = sym e; places_after = refused_by 21 _ _ (λ k. c.args.places.now) e refl; collected_stays = refl }
 
 pub sum_of-total-requires : goal.sum_of-total-requires
 sum_of-total-requires c =
