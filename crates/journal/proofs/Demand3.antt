@@ -8,8 +8,11 @@ use mathlib.Core.List.{List, []}
 use mathlib.Core.Option.{some}
 use lib.IntN.{pos}
 use contract.Lifetimes.{Lfts}
-use prog.Routine.{Env, Name, Routine}
-use denote.Ref.{Bor}
+use mir.Syntax.{Callee}
+use prog.Routine.{Env}
+use prog.Wired.{Wired, Code as CodeOf}
+use denote.Bor.{Bor}
+use denote.MutBor.{MutBor}
 use borrow.Fn.Kind.{ParamKind, ResultKind}
 use borrow.Fn.Kinds.{In, Out}
 use borrow.Fn.World.{World}
@@ -51,11 +54,11 @@ pub data Called (b : Book) : Call → Outcome → Type 0 where
       code.offer.Reads.Learnt tt (b, (n, (supplier, (q, (price, tt))))) r x → Called b (Call.offer n supplier q price) (of_done r)
   rated : (start : Day) (rate : ℕ) (r : Done) (x : _) →
       code.rate.Reads.Learnt tt (b, (start, (rate, tt))) r x → Called b (Call.rate start rate) (of_done r)
-  closed : (κs : Lfts 1) (price : ℕ) (lines : Bor (List ℕ)) (r : Closed) (x : _) →
+  closed : (κs : Lfts 1) (price : ℕ) (lines : MutBor (List ℕ)) (r : Closed) (x : _) →
       code.close.Reads.Learnt κs (b, (price, (lines, tt))) r x → Called b (Call.close price lines.now) (of_closed r x.1.1.0.now)
-  repeated : (κs : Lfts 1) (lines : Bor (List ℕ)) (r : Closed) (x : _) →
+  repeated : (κs : Lfts 1) (lines : MutBor (List ℕ)) (r : Closed) (x : _) →
       code.again.Reads.Learnt κs (b, (lines, tt)) r x → Called b (Call.again lines.now) (of_closed r x.1.0.now)
-  settled : (κs : Lfts 2) (collected payouts : Bor (List ℕ)) (r : Done) (x : _) →
+  settled : (κs : Lfts 2) (collected : Bor (List ℕ)) (payouts : MutBor (List ℕ)) (r : Done) (x : _) →
       code.month.Reads.Learnt κs (b, (collected, (payouts, tt))) r x →
       Called b (Call.month collected.now payouts.now) (of_paid r x.1.1.0.now x.1.0.now)
 
@@ -78,9 +81,9 @@ May b (Call.cancel n member) = code.cancel.Reads.Asked tt (b, (n, (member, tt)))
 May b (Call.deliver n q) = code.deliver.Reads.Asked tt (b, (n, (q, tt)))
 May b (Call.offer n supplier q price) = code.offer.Reads.Asked tt (b, (n, (supplier, (q, (price, tt)))))
 May b (Call.rate start rate) = code.rate.Reads.Asked tt (b, (start, (rate, tt)))
-May b (Call.close price lines) = (κs : Lfts 1) (ls : Bor (List ℕ)) → code.close.Reads.Asked κs (b, (price, (ls, tt)))
-May b (Call.again lines) = (κs : Lfts 1) (ls : Bor (List ℕ)) → code.again.Reads.Asked κs (b, (ls, tt))
-May b (Call.month collected payouts) = (κs : Lfts 2) (cs ps : Bor (List ℕ)) → code.month.Reads.Asked κs (b, (cs, (ps, tt)))
+May b (Call.close price lines) = (κs : Lfts 1) (ls : MutBor (List ℕ)) → code.close.Reads.Asked κs (b, (price, (ls, tt)))
+May b (Call.again lines) = (κs : Lfts 1) (ls : MutBor (List ℕ)) → code.again.Reads.Asked κs (b, (ls, tt))
+May b (Call.month collected payouts) = (κs : Lfts 2) (cs : Bor (List ℕ)) (ps : MutBor (List ℕ)) → code.month.Reads.Asked κs (b, (cs, (ps, tt)))
 
 -- Status was called on a book, and answered what its contract allows
 pub data StatusCalled (b : Book) (n : ℕ) (t : Shown) : Type 0 where
@@ -96,7 +99,7 @@ pub data LookCalled (b : Book) (m : ℕ) (t : Looked) : Type 0 where
 
 -- Again was called on a book with the words ws lent, and answered what its contract allows; the words then are us
 pub data AgainCalled (b : Book) : List ℕ → Closed → List ℕ → Type 0 where
-  called : (κs : Lfts 1) (lines : Bor (List ℕ)) (t : Closed) (x : _) → code.again.Reads.Learnt κs (b, (lines, tt)) t x → AgainCalled b lines.now t x.1.0.now
+  called : (κs : Lfts 1) (lines : MutBor (List ℕ)) (t : Closed) (x : _) → code.again.Reads.Learnt κs (b, (lines, tt)) t x → AgainCalled b lines.now t x.1.0.now
 
 -- M13, Month: two calls end in the same answer number, the same book and the same payouts
 pub record EndAlike (x y : Outcome) : Type 0 where
@@ -148,20 +151,20 @@ pub record Promise (s : Run) : Type 1 where
   pub may_account : (m : ℕ) → code.account.Reads.Asked tt (s.book, (m, tt))
   pub may_look : (m : ℕ) → code.look.Reads.Asked tt (s.book, (m, tt))
 
--- What a caller of a routine has, in every model of the machine and in every program, whatever the name of the routine
--- is there: if the first statement holds of the arguments, a call of the routine ends, and the second statement then
--- holds of the arguments, the result and the lists as the call ended.
-abbrev pub Gives : (n : ℕ) (ps : List (ParamKind n)) (r : ResultKind n) → Routine → In n ps → Out n ps r → Type 2
-Gives n ps r ρ asked learnt = (w : World) (γ : Env) (k : Name) → γ k ≡ ρ →
+-- What a caller of a function has, in every model of the machine and in every program that has the function's code,
+-- whatever the name of the function is there: if the first statement holds of the arguments, a call of the function
+-- ends, and the second statement then holds of the arguments, the result and the lists as the call ended.
+abbrev pub Gives : (n : ℕ) (ps : List (ParamKind n)) (r : ResultKind n) → CodeOf → Callee → In n ps → Out n ps r → Type 2
+Gives n ps r body name asked learnt = (w : World) → Wired w.𝓡.env body → (γ : Env) (k : Callee) → γ k ≡ w.𝓡.env name →
     Known w.𝓛 (Over w.𝓛 w.𝓜 w.𝓡 γ)
     n ps r asked learnt k
 
 -- What is said of the code of a function. It meets its contract as it is written in the source. So where `Asked` holds
 -- of the arguments, a call of the code ends, and `Learnt` holds of its result and lists: the steps of a run are what
 -- the code gives.
-pub record Code (M : Type 1) (statement : Type 1 → Type 2) (n : ℕ) (ps : List (ParamKind n)) (r : ResultKind n) (ρ : Routine) (asked : In n ps) (learnt : Out n ps r) : Type 2 where
+pub record Code (M : Type 1) (statement : Type 1 → Type 2) (n : ℕ) (ps : List (ParamKind n)) (r : ResultKind n) (body : CodeOf) (name : Callee) (asked : In n ps) (learnt : Out n ps r) : Type 2 where
   pub met : statement M
-  pub gives : Gives n ps r ρ asked learnt
+  pub gives : Gives n ps r body name asked learnt
 
 -- G3, Promises: the promise on whole journals
 pub record Demand3 (M : Type 1) : Type 2 where
@@ -174,16 +177,16 @@ pub record Demand3 (M : Type 1) : Type 2 where
   -- M13: on every book that a call takes, a Month that is given what each account owes ends as an empty one does
   pub owed_or_empty : (b : Book) → Valid b → SameAsEmpty b (debts b.ledger.accounts)
   -- the code of each function
-  pub open_code : Code M code.«open».Statement.statement 1 code.«open».Kinds.ps code.«open».Kinds.r code.«open».Symbol.routine code.«open».Reads.Asked code.«open».Reads.Learnt
-  pub enter_code : Code M code.enter.Statement.statement 0 code.enter.Kinds.ps code.enter.Kinds.r code.enter.Symbol.routine code.enter.Reads.Asked code.enter.Reads.Learnt
-  pub withdraw_code : Code M code.withdraw.Statement.statement 0 code.withdraw.Kinds.ps code.withdraw.Kinds.r code.withdraw.Symbol.routine code.withdraw.Reads.Asked code.withdraw.Reads.Learnt
-  pub cancel_code : Code M code.cancel.Statement.statement 0 code.cancel.Kinds.ps code.cancel.Kinds.r code.cancel.Symbol.routine code.cancel.Reads.Asked code.cancel.Reads.Learnt
-  pub deliver_code : Code M code.deliver.Statement.statement 0 code.deliver.Kinds.ps code.deliver.Kinds.r code.deliver.Symbol.routine code.deliver.Reads.Asked code.deliver.Reads.Learnt
-  pub offer_code : Code M code.offer.Statement.statement 0 code.offer.Kinds.ps code.offer.Kinds.r code.offer.Symbol.routine code.offer.Reads.Asked code.offer.Reads.Learnt
-  pub rate_code : Code M code.rate.Statement.statement 0 code.rate.Kinds.ps code.rate.Kinds.r code.rate.Symbol.routine code.rate.Reads.Asked code.rate.Reads.Learnt
-  pub close_code : Code M code.close.Statement.statement 1 code.close.Kinds.ps code.close.Kinds.r code.close.Symbol.routine code.close.Reads.Asked code.close.Reads.Learnt
-  pub again_code : Code M code.again.Statement.statement 1 code.again.Kinds.ps code.again.Kinds.r code.again.Symbol.routine code.again.Reads.Asked code.again.Reads.Learnt
-  pub month_code : Code M code.month.Statement.statement 2 code.month.Kinds.ps code.month.Kinds.r code.month.Symbol.routine code.month.Reads.Asked code.month.Reads.Learnt
-  pub status_code : Code M code.status.Statement.statement 0 code.status.Kinds.ps code.status.Kinds.r code.status.Symbol.routine code.status.Reads.Asked code.status.Reads.Learnt
-  pub account_code : Code M code.account.Statement.statement 0 code.account.Kinds.ps code.account.Kinds.r code.account.Symbol.routine code.account.Reads.Asked code.account.Reads.Learnt
-  pub look_code : Code M code.look.Statement.statement 0 code.look.Kinds.ps code.look.Kinds.r code.look.Symbol.routine code.look.Reads.Asked code.look.Reads.Learnt
+  pub open_code : Code M code.«open».Statement.statement 1 code.«open».Kinds.ps code.«open».Kinds.r code.«open».Symbol.code code.«open».Symbol.name code.«open».Reads.Asked code.«open».Reads.Learnt
+  pub enter_code : Code M code.enter.Statement.statement 0 code.enter.Kinds.ps code.enter.Kinds.r code.enter.Symbol.code code.enter.Symbol.name code.enter.Reads.Asked code.enter.Reads.Learnt
+  pub withdraw_code : Code M code.withdraw.Statement.statement 0 code.withdraw.Kinds.ps code.withdraw.Kinds.r code.withdraw.Symbol.code code.withdraw.Symbol.name code.withdraw.Reads.Asked code.withdraw.Reads.Learnt
+  pub cancel_code : Code M code.cancel.Statement.statement 0 code.cancel.Kinds.ps code.cancel.Kinds.r code.cancel.Symbol.code code.cancel.Symbol.name code.cancel.Reads.Asked code.cancel.Reads.Learnt
+  pub deliver_code : Code M code.deliver.Statement.statement 0 code.deliver.Kinds.ps code.deliver.Kinds.r code.deliver.Symbol.code code.deliver.Symbol.name code.deliver.Reads.Asked code.deliver.Reads.Learnt
+  pub offer_code : Code M code.offer.Statement.statement 0 code.offer.Kinds.ps code.offer.Kinds.r code.offer.Symbol.code code.offer.Symbol.name code.offer.Reads.Asked code.offer.Reads.Learnt
+  pub rate_code : Code M code.rate.Statement.statement 0 code.rate.Kinds.ps code.rate.Kinds.r code.rate.Symbol.code code.rate.Symbol.name code.rate.Reads.Asked code.rate.Reads.Learnt
+  pub close_code : Code M code.close.Statement.statement 1 code.close.Kinds.ps code.close.Kinds.r code.close.Symbol.code code.close.Symbol.name code.close.Reads.Asked code.close.Reads.Learnt
+  pub again_code : Code M code.again.Statement.statement 1 code.again.Kinds.ps code.again.Kinds.r code.again.Symbol.code code.again.Symbol.name code.again.Reads.Asked code.again.Reads.Learnt
+  pub month_code : Code M code.month.Statement.statement 2 code.month.Kinds.ps code.month.Kinds.r code.month.Symbol.code code.month.Symbol.name code.month.Reads.Asked code.month.Reads.Learnt
+  pub status_code : Code M code.status.Statement.statement 0 code.status.Kinds.ps code.status.Kinds.r code.status.Symbol.code code.status.Symbol.name code.status.Reads.Asked code.status.Reads.Learnt
+  pub account_code : Code M code.account.Statement.statement 0 code.account.Kinds.ps code.account.Kinds.r code.account.Symbol.code code.account.Symbol.name code.account.Reads.Asked code.account.Reads.Learnt
+  pub look_code : Code M code.look.Statement.statement 0 code.look.Kinds.ps code.look.Kinds.r code.look.Symbol.code code.look.Symbol.name code.look.Reads.Asked code.look.Reads.Learnt

@@ -3,7 +3,8 @@ use Prim.Native.Nat.{ℕ}
 use mathlib.Core.Path.{◌≡◌, refl, sym, ap, ap₂, subst⁻¹, ◌∙◌}
 use mathlib.Core.List.{List, [], ◌∷◌}
 use lib.ListN.{length}
-use denote.Ref.{Bor}
+use denote.Bor.{Bor}
+use denote.MutBor.{MutBor}
 use Rattle.netting.specs.Accounts.{debts}
 use Rattle.book.specs.declared.Book.{Book}
 use Rattle.book.specs.declared.Done.{Done}
@@ -96,9 +97,12 @@ promised s ran =
     }
 
 -- ---- every Open and every list of calls has a run
--- a list that is lent, wherever it lies
+-- a list that is lent to be read, and one that is lent to be written to, wherever it lies
 abbrev lent : List ℕ → Bor (List ℕ)
 lent ws = record { ref_ptr = (0, 0); now = ws }
+
+abbrev lent_out : List ℕ → MutBor (List ℕ)
+lent_out ws = record { ref_ptr = (0, 0); ghost_name = 0; now = ws }
 
 -- every call on a valid book can be made
 calls : (b : Book) → Valid b → (c : Call) → Called b c (outcome_of b c)
@@ -111,13 +115,13 @@ calls b v (Call.offer n supplier q price) =
     Called.offered n supplier q price _ (b, (n, (supplier, (q, (price, tt))))) (refl, laws.Kept.offer_valid b v n supplier q price)
 calls b v (Call.rate start rate) = Called.rated start rate _ (b, (start, (rate, tt))) (refl, laws.Kept.rate_valid b v start rate)
 calls b v (Call.close price lines) =
-    Called.closed ([], tt) price (lent lines) _ (b, (price, (lent (rules.Close.close_words b price lines), tt)))
+    Called.closed ([], tt) price (lent_out lines) _ (b, (price, (lent_out (rules.Close.close_words b price lines), tt)))
     (refl, (refl, laws.Ended.close_valid b v price lines))
 calls b v (Call.again lines) =
-    Called.repeated ([], tt) (lent lines) _ (b, (lent (rules.Again.again_words b lines), tt)) (refl, (refl, laws.Ended.again_valid b v lines))
+    Called.repeated ([], tt) (lent_out lines) _ (b, (lent_out (rules.Again.again_words b lines), tt)) (refl, (refl, laws.Ended.again_valid b v lines))
 calls b v (Call.month collected payouts) =
-    Called.settled ([], ([], tt)) (lent collected) (lent payouts) _
-    (b, (lent collected, (lent (rules.Month.month_words b collected payouts), tt))) (refl, (refl, (laws.Paid.month_valid b v collected (length payouts), refl)))
+    Called.settled ([], ([], tt)) (lent collected) (lent_out payouts) _
+    (b, (lent collected, (lent_out (rules.Month.month_words b collected payouts), tt))) (refl, (refl, (laws.Paid.month_valid b v collected (length payouts), refl)))
 
 ran : (o : Opening) (cs : List Call) → Ran (played o cs)
 ran o [] =
@@ -132,17 +136,17 @@ demand_3 = record {
   each = ran;
   may_open = λ first κs closed terms. tt;
   owed_or_empty = same_as_empty;
-  open_code = record { met = code.«open».Met.met; gives = λ w γ k same. code.«open».Reads.known w γ k code.«open».Symbol.routine same (code.«open».Met.met w.𝓤 w.𝓛 w.𝓜 w.𝓡) };
-  enter_code = record { met = code.enter.Met.met; gives = λ w γ k same. code.enter.Reads.known w γ k code.enter.Symbol.routine same (code.enter.Met.met w.𝓤 w.𝓛 w.𝓜 w.𝓡) };
-  withdraw_code = record { met = code.withdraw.Met.met; gives = λ w γ k same. code.withdraw.Reads.known w γ k code.withdraw.Symbol.routine same (code.withdraw.Met.met w.𝓤 w.𝓛 w.𝓜 w.𝓡) };
-  cancel_code = record { met = code.cancel.Met.met; gives = λ w γ k same. code.cancel.Reads.known w γ k code.cancel.Symbol.routine same (code.cancel.Met.met w.𝓤 w.𝓛 w.𝓜 w.𝓡) };
-  deliver_code = record { met = code.deliver.Met.met; gives = λ w γ k same. code.deliver.Reads.known w γ k code.deliver.Symbol.routine same (code.deliver.Met.met w.𝓤 w.𝓛 w.𝓜 w.𝓡) };
-  offer_code = record { met = code.offer.Met.met; gives = λ w γ k same. code.offer.Reads.known w γ k code.offer.Symbol.routine same (code.offer.Met.met w.𝓤 w.𝓛 w.𝓜 w.𝓡) };
-  rate_code = record { met = code.rate.Met.met; gives = λ w γ k same. code.rate.Reads.known w γ k code.rate.Symbol.routine same (code.rate.Met.met w.𝓤 w.𝓛 w.𝓜 w.𝓡) };
-  close_code = record { met = code.close.Met.met; gives = λ w γ k same. code.close.Reads.known w γ k code.close.Symbol.routine same (code.close.Met.met w.𝓤 w.𝓛 w.𝓜 w.𝓡) };
-  again_code = record { met = code.again.Met.met; gives = λ w γ k same. code.again.Reads.known w γ k code.again.Symbol.routine same (code.again.Met.met w.𝓤 w.𝓛 w.𝓜 w.𝓡) };
-  month_code = record { met = code.month.Met.met; gives = λ w γ k same. code.month.Reads.known w γ k code.month.Symbol.routine same (code.month.Met.met w.𝓤 w.𝓛 w.𝓜 w.𝓡) };
-  status_code = record { met = code.status.Met.met; gives = λ w γ k same. code.status.Reads.known w γ k code.status.Symbol.routine same (code.status.Met.met w.𝓤 w.𝓛 w.𝓜 w.𝓡) };
-  account_code = record { met = code.account.Met.met; gives = λ w γ k same. code.account.Reads.known w γ k code.account.Symbol.routine same (code.account.Met.met w.𝓤 w.𝓛 w.𝓜 w.𝓡) };
-  look_code = record { met = code.look.Met.met; gives = λ w γ k same. code.look.Reads.known w γ k code.look.Symbol.routine same (code.look.Met.met w.𝓤 w.𝓛 w.𝓜 w.𝓡) };
+  open_code = record { met = code.«open».Met.met; gives = λ w wired γ k same. code.«open».Reads.known w γ k (w.𝓡.env code.«open».Symbol.name) same (code.«open».Met.met w.𝓤 w.𝓛 w.𝓜 w.𝓡 wired) };
+  enter_code = record { met = code.enter.Met.met; gives = λ w wired γ k same. code.enter.Reads.known w γ k (w.𝓡.env code.enter.Symbol.name) same (code.enter.Met.met w.𝓤 w.𝓛 w.𝓜 w.𝓡 wired) };
+  withdraw_code = record { met = code.withdraw.Met.met; gives = λ w wired γ k same. code.withdraw.Reads.known w γ k (w.𝓡.env code.withdraw.Symbol.name) same (code.withdraw.Met.met w.𝓤 w.𝓛 w.𝓜 w.𝓡 wired) };
+  cancel_code = record { met = code.cancel.Met.met; gives = λ w wired γ k same. code.cancel.Reads.known w γ k (w.𝓡.env code.cancel.Symbol.name) same (code.cancel.Met.met w.𝓤 w.𝓛 w.𝓜 w.𝓡 wired) };
+  deliver_code = record { met = code.deliver.Met.met; gives = λ w wired γ k same. code.deliver.Reads.known w γ k (w.𝓡.env code.deliver.Symbol.name) same (code.deliver.Met.met w.𝓤 w.𝓛 w.𝓜 w.𝓡 wired) };
+  offer_code = record { met = code.offer.Met.met; gives = λ w wired γ k same. code.offer.Reads.known w γ k (w.𝓡.env code.offer.Symbol.name) same (code.offer.Met.met w.𝓤 w.𝓛 w.𝓜 w.𝓡 wired) };
+  rate_code = record { met = code.rate.Met.met; gives = λ w wired γ k same. code.rate.Reads.known w γ k (w.𝓡.env code.rate.Symbol.name) same (code.rate.Met.met w.𝓤 w.𝓛 w.𝓜 w.𝓡 wired) };
+  close_code = record { met = code.close.Met.met; gives = λ w wired γ k same. code.close.Reads.known w γ k (w.𝓡.env code.close.Symbol.name) same (code.close.Met.met w.𝓤 w.𝓛 w.𝓜 w.𝓡 wired) };
+  again_code = record { met = code.again.Met.met; gives = λ w wired γ k same. code.again.Reads.known w γ k (w.𝓡.env code.again.Symbol.name) same (code.again.Met.met w.𝓤 w.𝓛 w.𝓜 w.𝓡 wired) };
+  month_code = record { met = code.month.Met.met; gives = λ w wired γ k same. code.month.Reads.known w γ k (w.𝓡.env code.month.Symbol.name) same (code.month.Met.met w.𝓤 w.𝓛 w.𝓜 w.𝓡 wired) };
+  status_code = record { met = code.status.Met.met; gives = λ w wired γ k same. code.status.Reads.known w γ k (w.𝓡.env code.status.Symbol.name) same (code.status.Met.met w.𝓤 w.𝓛 w.𝓜 w.𝓡 wired) };
+  account_code = record { met = code.account.Met.met; gives = λ w wired γ k same. code.account.Reads.known w γ k (w.𝓡.env code.account.Symbol.name) same (code.account.Met.met w.𝓤 w.𝓛 w.𝓜 w.𝓡 wired) };
+  look_code = record { met = code.look.Met.met; gives = λ w wired γ k same. code.look.Reads.known w γ k (w.𝓡.env code.look.Symbol.name) same (code.look.Met.met w.𝓤 w.𝓛 w.𝓜 w.𝓡 wired) };
 }
