@@ -7,17 +7,17 @@ ROOT = Path(__file__).resolve().parent.parent
 STATEMENT = ["crates/journal/specs/Promise.antt", "crates/journal/proofs/Demand3.antt"]
 # The laws beside the statement that a reader is told of: for each file, patterns of their names.
 LAWS = {
-    "crates/journal/proofs/Theorem.antt": ["demand-3"],
-    "crates/journal/proofs/Recalled.antt": ["Remembered", "remembered", "no-26-again"],
-    "crates/basics/proofs/Refusals.antt": ["Printed", "Smallest", "NoneHolds", "Refuses", "refuses-by", "refuses-none"],
-    "crates/book/proofs/Refused.antt": [".*-refuses"],
-    "crates/book/proofs/Usable.antt": ["close-started", "few-held", "rate-taken", "rate-used"],
-    "crates/rates/proofs/Ruling.antt": ["Greatest", "in-force-greatest", "none-started"],
-    "crates/holidays/proofs/Refused.antt": ["target-refuses"],
-    "crates/settle/proofs/Journals.antt": ["held-promised"],
-    "crates/settle/proofs/Texts.antt": ["reached-follows", "played-means"],
-    "crates/settle/proofs/Completing.antt": ["over-complete", "all-handed"],
-    "crates/settle/proofs/Opening.antt": ["days-open"],
+    "crates/journal/proofs/Theorem.antt": ["demand_3"],
+    "crates/journal/proofs/Recalled.antt": ["Remembered", "remembered", "no_26_again"],
+    "crates/basics/proofs/Refusals.antt": ["Printed", "Smallest", "NoneHolds", "Refuses", "refuses_by", "refuses_none"],
+    "crates/book/proofs/Refused.antt": [".*_refuses"],
+    "crates/book/proofs/Usable.antt": ["close_started", "few_held", "rate_taken", "rate_used"],
+    "crates/rates/proofs/Ruling.antt": ["Greatest", "in_force_greatest", "none_started"],
+    "crates/holidays/proofs/Refused.antt": ["target_refuses"],
+    "crates/settle/proofs/Journals.antt": ["held_promised"],
+    "crates/settle/proofs/Texts.antt": ["reached_follows", "played_means"],
+    "crates/settle/proofs/Completing.antt": ["over_complete", "all_handed"],
+    "crates/settle/proofs/Opening.antt": ["days_open"],
     "crates/examples/proofs/Settled.antt": ["settled"],
 }
 # Each file with contracts that are promised, and patterns of the names of its functions.
@@ -26,6 +26,8 @@ CONTRACTS = {
     "crates/holidays/src/lib.rt": ["pub target_days"],
     "crates/settle/src/main.rt": ["settle_all"],
 }
+# Our crates. A path of the toolchain's library has the same form, with the name of a library in the crate's place.
+OWN = {path.name for path in (ROOT / "crates").iterdir()}
 FUNCTION = re.compile(r"( *)(pub )?fn (\w+)\(")
 DECLARATION = re.compile(r"( *)((?:(?:pub|abbrev|unfoldable|record|data) )*)([^\s:(]+) .*")
 
@@ -53,8 +55,9 @@ def uses(lines, text):
     out: where a name comes from one of our files in its place, there is a line more."""
     words = set(re.findall(r"[^\s(){};,.]+", text))
     for line in lines:
-        if match := re.fullmatch(r"((?:ghost )?use Rattle·\S+)\.\{(.*)\};?", line):
-            names = [name for name in match[2].split(", ") if name in words]
+        match = re.fullmatch(r"((?:ghost )?use Rattle\.(\w+)\.\S+)\.\{(.*)\};?", line)
+        if match and match[2] in OWN:
+            names = [name for name in match[3].split(", ") if name in words]
             if names:
                 yield f"{match[1]}.{{{', '.join(names)}}}"
 
@@ -94,12 +97,12 @@ def contracts(path):
 
 # What no fault has to break: how a call and a run are told; the words of a line, and the offers of which the clauses
 # beside them speak; and that code meets its contract, which each fault of that contract breaks.
-FREE = re.compile(r"(\w*Called|Ran|Purchase|Code)\..*|BoughtInTurn\.turns|Demand3\..*-code")
+FREE = re.compile(r"(\w*Called|Ran|Purchase|Code)\..*|BoughtInTurn\.turns|Demand3\..*_code")
 
 
 def clauses():
     """What a fault can break, and whether a fault has to: the fields of a record of the statement and the cases of a
-    type there, as in Promise.zero-sum; what is a name for other clauses, as EveryMonth, which no fault has to; and the
+    type there, as in Promise.zero_sum; what is a name for other clauses, as EveryMonth, which no fault has to; and the
     contract of each function, as Book::close."""
     found = {}
     for path in STATEMENT:
@@ -107,7 +110,7 @@ def clauses():
             if match := re.match(r"(?:pub record|pub data|abbrev pub|unfoldable pub) (\S+)", line):
                 owner = match[1]
                 found[owner] = False
-            elif match := re.match(r"  (?:pub )?([\w-]+) :", line):
+            elif match := re.match(r"  (?:pub )?([\w']+) :", line):
                 name = f"{owner}.{match[1]}"
                 found[name] = not FREE.fullmatch(name)
     for path in CONTRACTS:

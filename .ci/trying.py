@@ -6,7 +6,7 @@ import sys
 from pathlib import Path
 
 ROOT = Path(__file__).resolve().parent.parent
-SETTLE = ROOT / "target/bin/settle"
+SETTLE = ROOT / "crates/settle/out/settle"  # where `rt ci` and `rt run` leave the program that they proved
 KEEP = ROOT / "host/keep"
 LIMIT = 60  # seconds for any one program
 TEST_LIMIT = 300  # seconds for any one test
