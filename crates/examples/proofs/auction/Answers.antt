@@ -3,7 +3,6 @@ use lib.ListN.{get_or}
 use mathlib.Core.Path.{◌≡◌, ap, ap₂, ◌∙◌}
 use Prim.Native.Nat.{ℕ}
 use native.Mathlib.Omega.{arith}
-use borrow.Author.Rules.{rules}
 use Rattle.examples.proofs.Same.{none_differs}
 use Rattle.offers.specs.BuyIn.{offers_for, with_given, given_by, given, nothing_given, bought_with}
 use Rattle.offers.specs.Held.{listed_offers, with_offer}

@@ -1,7 +1,6 @@
 -- `charges` meets its contract.
 use mathlib.Core.Path.{ap, ◌∙◌}
 use native.Mathlib.Omega.{arith}
-use borrow.Author.Rules.{rules}
 use Rattle.amounts.specs.Amounts.{value, due_for, cash, charge}
 use Rattle.examples.proofs.Same.{none_differs}
 use Rattle.examples.proofs.charges.Goals as goal

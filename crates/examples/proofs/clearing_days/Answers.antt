@@ -2,7 +2,6 @@
 use Prim.Native.Nat.{ℕ}
 use mathlib.Core.Path.{ap, ◌∙◌}
 use native.Mathlib.Omega.{arith}
-use borrow.Author.Rules.{rules}
 use Rattle.examples.proofs.Settled.{thirtieth, thirty_fifth, thirtieth_after_closed}
 use Rattle.examples.specs.Table.{day_or_none}
 use Rattle.calendar.specs.Closed.{day, closed_days, listed_days}

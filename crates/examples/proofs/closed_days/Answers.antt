@@ -4,7 +4,6 @@ use native.Mathlib.Omega.{arith}
 use mathlib.Core.List.{List}
 use mathlib.Core.Path.{ap, ◌∙◌}
 use lib.ListN.{get_or}
-use borrow.Author.Rules.{rules}
 use Rattle.holidays.specs.declared.DaysWritten.{DaysWritten}
 use Rattle.examples.proofs.Same.{none_differs}
 use Rattle.examples.proofs.Settled.{example_13}

@@ -1,7 +1,6 @@
 -- `compared` meets its contract.
 use borrow.Author.Tests.{eq-eqb, ne_eqb}
 use native.Mathlib.Omega.{arith}
-use borrow.Author.Rules.{rules}
 use Rattle.examples.proofs.compared.Goals as goal
 
 pub returns-then-answer-settled : goal.returns-then-answer-settled

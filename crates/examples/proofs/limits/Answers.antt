@@ -1,7 +1,6 @@
 -- `limits` meets its contract.
 use mathlib.Core.Path.{ap, ◌∙◌}
 use native.Mathlib.Omega.{arith}
-use borrow.Author.Rules.{rules}
 use Rattle.examples.specs.Table.{as_number}
 use Rattle.amounts.specs.Amounts.{tolerance, amounts_match, above_cap}
 use Rattle.examples.proofs.Same.{none_differs}

@@ -4,7 +4,6 @@ use Prim.Native.Nat.{ℕ}
 use lib.ListN.{get_or, replicate}
 use mathlib.Core.Path.{◌≡◌, refl, ap, ◌∙◌}
 use native.Mathlib.Omega.{arith}
-use borrow.Author.Rules.{rules}
 use Rattle.examples.proofs.Small.{shareable}
 use Rattle.netting.specs.Shares.{floor_share, remainder, cents_left, comes_before, rank, extra_cent, share, shares}
 use Rattle.basics.specs.Lists.{total, table_from, count_below}

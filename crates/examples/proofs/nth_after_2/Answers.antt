@@ -1,6 +1,5 @@
 -- `nth_after_2` meets its contract.
 use mathlib.Core.Path.{sym, ap, ◌∙◌}
-use borrow.Author.Rules.{rules}
 use Rattle.examples.specs.Table.{day_or_none}
 use Rattle.examples.proofs.nth_after_2.Goals as goal
 

@@ -1,6 +1,5 @@
 -- `part_deliveries` meets its contract.
 use native.Mathlib.Omega.{arith}
-use borrow.Author.Rules.{rules}
 use Rattle.amounts.specs.Amounts.{due_for, cash}
 use Rattle.examples.proofs.Same.{none_differs}
 use Rattle.examples.proofs.part_deliveries.Goals as goal

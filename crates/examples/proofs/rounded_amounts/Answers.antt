@@ -1,6 +1,5 @@
 -- `rounded_amounts` meets its contract.
 use native.Mathlib.Omega.{arith}
-use borrow.Author.Rules.{rules}
 use Rattle.amounts.specs.Quotients.{rounded}
 use Rattle.amounts.specs.Amounts.{value, penalty, compensation}
 use Rattle.examples.proofs.Same.{none_differs}

@@ -5,7 +5,6 @@ use mathlib.Core.Path.{ap}
 use mathlib.Core.List.{List}
 use lib.ListN.{get_or}
 use Rattle.examples.proofs.Same.{none_differs}
-use borrow.Author.Rules.{rules}
 use Rattle.examples.proofs.played.bought.Goals as goal
 
 pub returns : goal.returns

@@ -10,7 +10,6 @@ use Rattle.book.specs.declared.Done.{Done}
 use Rattle.book.specs.Buying.{offer}
 use Rattle.examples.proofs.Same.{none_differs}
 use Rattle.examples.proofs.Settled.{example_4}
-use borrow.Author.Rules.{rules}
 use Rattle.examples.proofs.played.cap.Goals as goal
 
 pub returns : goal.returns

@@ -13,6 +13,6 @@ returns c =
     let one = c.with_sale.ensures.value ∙ ap (λ (b : Book). book_after b (sale 3 0 200 1000)) c.rated.ensures.value in
     let two = c.with_sale-sold.ensures.value ∙ ap (λ (b : Book). book_after b (sale 3 1 100 1000)) one in
     record {
-  value = ap (λ (k : Closed). k.book) (c.close-closed.ensures.value ∙ ap (λ (b : Book). close b 100000 fewest_words) two);
-  valid = search rules;
-}
+      value = ap (λ (k : Closed). k.book) (c.close-closed.ensures.value ∙ ap (λ (b : Book). close b 100000 fewest_words) two);
+      valid = search rules;
+    }

@@ -3,7 +3,6 @@ use native.Mathlib.Omega.{arith}
 use Prim.Native.Nat.{ℕ, ◌-◌}
 use mathlib.Core.Path.{◌≡◌, refl, sym, ap, ◌∙◌}
 use Rattle.book.specs.declared.Book.{Book}
-use Rattle.book.specs.Book.{Valid}
 use Rattle.examples.specs.Played.{book_after, days_pass}
 use Rattle.examples.proofs.Passing.{one_day}
 use borrow.Author.Rules.{rules}
@@ -19,6 +18,6 @@ loop-left-preserved c = let l = c.loop-left in
 pub returns : goal.returns
 returns c = let l = c.loop-left in let e : l.left ≡ 0 = omega arith in
     record {
-  value = ap (λ (n : ℕ). book_after l.today (days_pass n)) (sym e) ∙ l.invariant.0;
-  valid = search rules;
-}
+      value = ap (λ (n : ℕ). book_after l.today (days_pass n)) (sym e) ∙ l.invariant.0;
+      valid = search rules;
+    }

@@ -1,12 +1,7 @@
 -- `days_pass` meets its contract.
-use native.Mathlib.Omega.{arith}
-use Prim.Native.Nat.{ℕ, ◌-◌}
-use mathlib.Core.Path.{◌≡◌, refl, sym, ap, ◌∙◌}
-use Rattle.book.specs.declared.Book.{Book}
+use mathlib.Core.Path.{◌≡◌}
 use Rattle.book.specs.Book.{Valid}
 use Rattle.examples.specs.Played.{book_after, days_pass}
-use Rattle.examples.proofs.Passing.{one_day}
-use borrow.Author.Rules.{rules}
 use Rattle.examples.proofs.played.days_pass.Given as goal
 
 abbrev pub invariant-loop-left : goal.invariant-loop-left

@@ -11,7 +11,6 @@ use Rattle.book.specs.Instructing.{deliver}
 use Rattle.examples.specs.Played.{book_after, sale}
 use Rattle.examples.proofs.Same.{none_differs}
 use Rattle.examples.proofs.Settled.{example_7}
-use borrow.Author.Rules.{rules}
 use Rattle.examples.proofs.played.deliveries.Goals as goal
 
 pub returns : goal.returns

@@ -11,7 +11,6 @@ use Rattle.journal.specs.Calls.{month}
 use Rattle.examples.specs.Played.{two_sales, month_played}
 use Rattle.examples.specs.Table.{paid_in_full}
 use Rattle.examples.proofs.Settled.{closed_once, taken_place, example_12}
-use borrow.Author.Rules.{rules}
 use Rattle.examples.proofs.played.everybody_paid.Goals as goal
 
 -- what a Month pays on a book, if it is given these amounts

@@ -15,6 +15,6 @@ returns c =
     let one = ap (λ (d : Done). d.book) (c.rate-ahead.ensures.value ∙ ap (λ (b : Book). rated b (day 7) 20) fresh) in
     let two = ap (λ (d : Done). d.book) (c.rate-current.ensures.value ∙ ap (λ (b : Book). rated b (day 6) 10) one) in
     record {
-  value = c.with_sale.ensures.value ∙ ap (λ (b : Book). book_after b (sale_on 6 3 0 1000 1000)) two;
-  valid = search rules;
-}
+      value = c.with_sale.ensures.value ∙ ap (λ (b : Book). book_after b (sale_on 6 3 0 1000 1000)) two;
+      valid = search rules;
+    }

@@ -10,7 +10,6 @@ use Rattle.calendar.specs.Closed.{day}
 use Rattle.book.specs.declared.Entered.{Entered}
 use Rattle.book.specs.Instructing.{enter}
 use Rattle.examples.proofs.Same.{none_differs}
-use borrow.Author.Rules.{rules}
 use Rattle.examples.proofs.played.one_of_three.Goals as goal
 
 pub returns : goal.returns

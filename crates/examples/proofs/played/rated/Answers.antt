@@ -11,6 +11,6 @@ pub returns : goal.returns
 returns c =
     let r = c.args.rate in
     record {
-  value = ap (λ (d : Done). d.book) (c.rate-entered.ensures.value ∙ ap (λ (b : Book). rated b (day 2) r) c.opened.ensures.value);
-  valid = search rules;
-}
+      value = ap (λ (d : Done). d.book) (c.rate-entered.ensures.value ∙ ap (λ (b : Book). rated b (day 2) r) c.opened.ensures.value);
+      valid = search rules;
+    }

@@ -12,7 +12,6 @@ use Rattle.book.specs.Again.{again, again_words}
 use Rattle.book.specs.Month.{month}
 use Rattle.examples.proofs.Same.{none_differs}
 use Rattle.examples.proofs.Settled.{example_11_words}
-use borrow.Author.Rules.{rules}
 use Rattle.examples.proofs.played.reprint.Goals as goal
 
 -- what the Month of the example collects

@@ -10,7 +10,6 @@ use Rattle.book.specs.declared.Closed.{Closed}
 use Rattle.book.specs.Close.{close, close_words}
 use Rattle.examples.proofs.Same.{none_differs}
 use Rattle.examples.proofs.Settled.{example_15_words}
-use borrow.Author.Rules.{rules}
 use Rattle.examples.proofs.played.starting_days.Goals as goal
 
 pub returns : goal.returns

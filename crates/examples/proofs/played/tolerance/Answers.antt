@@ -1,6 +1,5 @@
 -- `tolerance` meets its contract.
 use Rattle.examples.proofs.Settled.{example_5, example_6}
-use borrow.Author.Rules.{rules}
 use Rattle.examples.proofs.played.tolerance.Goals as goal
 
 pub one_of_three-requires : goal.one_of_three-requires

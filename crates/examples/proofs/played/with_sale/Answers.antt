@@ -11,6 +11,6 @@ pub returns : goal.returns
 returns c = let s = c.args in
     let one = ap (λ (o : Entered). o.book) c.enter-delivers.ensures.value in
     record {
-  value = ap (λ (o : Entered). o.book) (c.enter-receives.ensures.value ∙ ap (λ (b : Book). enter b s.buyer s.seller 1 s.quantity s.amount (day s.due)) one);
-  valid = search rules;
-}
+      value = ap (λ (o : Entered). o.book) (c.enter-receives.ensures.value ∙ ap (λ (b : Book). enter b s.buyer s.seller 1 s.quantity s.amount (day s.due)) one);
+      valid = search rules;
+    }
