@@ -144,6 +144,7 @@ impl Leg {
     }
 
     // Whether a leg is one that a new leg matches.
+    #[tactic(auto, unfolding(crate::specs::Match::fits))]
     pub fn fits_new(self, new: Leg) -> bool
         ensures { result ≡ fits self new }
     {
@@ -184,6 +185,7 @@ impl Legs {
     }
 
     // Finds the leg with a number.
+    #[tactic(auto, unfolding(crate::specs::Legs::fetched_leg))]
     pub fn fetch(self, number: u64) -> FetchedLeg
         requires { self.count ≤ most_legs }
         ensures { result ≡ fetched_leg self number }

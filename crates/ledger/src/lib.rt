@@ -208,6 +208,7 @@ impl Obligation {
     }
 
     // The units settled so far.
+    #[tactic(auto, unfolding(crate::specs::Parts::settled_parts, crate::specs::Parts::all_parts, basics::specs::Lists::total))]
     fn settled_so_far(self) -> u64
         requires { Sound self }
         ensures { result ≡ settled self }
@@ -216,6 +217,7 @@ impl Obligation {
     }
 
     // The cash for a quantity that is settled next.
+    #[tactic(auto, unfolding(crate::specs::Obligations::cash_of), using(crate::proofs::Keeping::settled_most))]
     pub fn cash_for(self, quantity: u64) -> u64
         requires { Takes self quantity }
         ensures { result ≡ cash_of self quantity }
@@ -230,6 +232,7 @@ impl Obligation {
     }
 
     // A quantity moves from outstanding to a part.
+    #[tactic(auto, unfolding(crate::specs::Obligations::moving))]
     pub fn move_to(self, part: Part, quantity: u64) -> Obligation
         requires { Takes self quantity }
         ensures { result ≡ moving part quantity self }
@@ -242,6 +245,7 @@ impl Obligation {
     }
 
     // The age of the obligation on its last day, by the terms of the book.
+    #[tactic(auto, unfolding(crate::specs::Obligations::last_of))]
     pub fn last_of(self, terms: Terms) -> ClearingDays
         requires { ValidTerms terms }
         ensures { result.0 ≡ last_of terms self }
@@ -250,6 +254,7 @@ impl Obligation {
     }
 
     // Who is debited and who is credited with a penalty.
+    #[tactic(auto, unfolding(crate::specs::Obligations::sides))]
     pub fn penalty_sides(self) -> Sides
         ensures { result ≡ sides_of self }
     {
@@ -260,6 +265,7 @@ impl Obligation {
     }
 
     // Whether a Close takes this obligation: its day has come, and something is outstanding.
+    #[tactic(auto, unfolding(crate::specs::Obligations::is_due))]
     pub fn is_due(self, today: Day) -> bool
         ensures { result ≡ is_due today self }
     {
@@ -278,6 +284,7 @@ impl Obligation {
     }
 
     // Whether a member is the seller or the buyer.
+    #[tactic(auto, unfolding(crate::specs::Obligations::is_party))]
     pub fn is_party(self, member: u64) -> bool
         ensures { result ≡ is_party self member }
     {
@@ -285,6 +292,7 @@ impl Obligation {
     }
 
     // Whether the wish of a party to cancel is recorded.
+    #[tactic(auto, unfolding(crate::specs::Obligations::has_wished))]
     pub fn has_wished(self, member: u64) -> bool
         ensures { result ≡ has_wished self member }
     {
@@ -295,6 +303,7 @@ impl Obligation {
     }
 
     // Records a party's wish to cancel.
+    #[tactic(auto, unfolding(crate::specs::Obligations::with_wish))]
     fn with_wish(self, member: u64) -> Obligation
         ensures { result ≡ with_wish member self }
     {
@@ -308,6 +317,7 @@ impl Obligation {
     }
 
     // Whether both parties wish to cancel.
+    #[tactic(auto, unfolding(crate::specs::Obligations::both_wish))]
     fn both_wish(self) -> bool
         ensures { result ≡ both_wish self }
     {
@@ -315,6 +325,7 @@ impl Obligation {
     }
 
     // Records a party's wish, and cancels what is outstanding if the other party has wished it before.
+    #[tactic(auto, unfolding(crate::specs::Obligations::wishing), using(crate::proofs::Keeping::takes_all, crate::proofs::Keeping::with_wish_sound))]
     pub fn wish(self, member: u64) -> Obligation
         requires { Sound self }
         ensures { result ≡ wishing member self }
@@ -328,6 +339,7 @@ impl Obligation {
     }
 
     // The quantity that a party's wish cancels.
+    #[tactic(auto, unfolding(crate::specs::Obligations::moved_by_wish))]
     pub fn moved_by_wish(self, member: u64) -> u64
         ensures { result ≡ moved_by_wish member self }
     {
@@ -367,6 +379,7 @@ impl Ledger {
     }
 
     // Finds the obligation with a number.
+    #[tactic(auto, unfolding(crate::specs::Ledger::fetched))]
     pub fn fetch(self, number: u64) -> Fetched
         requires { self.count ≤ most_obligations }
         ensures { result ≡ fetched self number }
