@@ -250,6 +250,12 @@ class Walk:
     def of_bytes(self, node, wanted):
         self.literal(node)
 
+    def of_macro(self, node, wanted):
+        """What a macro writes is not looked at."""
+
+    def of_try(self, node, wanted):
+        self.value(node.value)
+
     def of_float(self, node, wanted):
         return None
 

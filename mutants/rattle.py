@@ -178,6 +178,13 @@ class Types(Reader):
             while not self.take(">"):
                 self.next()
 
+    def generics(self):
+        """Passes over the parameters of a type, an impl or a function: `<'a, T: Write>` or `<()>`."""
+        depth = 0
+        while depth or self.is_next("<"):
+            text = self.next().text
+            depth += {"<": 1, "<<": 2, ">": -1, ">>": -2}.get(text, 0)
+
     def type(self):
         if self.is_next("&&"):
             at = self.token().start
@@ -195,7 +202,10 @@ class Types(Reader):
             return f"[{item}{length}]"
         if self.take("("):
             return "(" + ", ".join(self.listed(")", self.type)) + ")"
-        return "::".join(self.path())
+        self.take("impl", "dyn")
+        path = self.path()
+        self.generics()
+        return "::".join(path)
 
     def text_of(self, node):
         return self.text[node.start : node.end].replace("_", "")
@@ -331,6 +341,8 @@ class Expressions(Types):
                 value = Node("index", value.start, self.done(), base=value, at=at)
             elif self.take("."):
                 value = self.member(value)
+            elif self.take("?"):
+                value = Node("try", value.start, self.done(), value=value)
             else:
                 return value
 
@@ -388,6 +400,10 @@ class Expressions(Types):
     def named(self, record):
         start = self.token().start
         path = self.path()
+        if self.is_next("!") and self.peek(1) in ("(", "["):  # a macro's call, whose arguments are passed over
+            self.next()
+            self.skip_group()
+            return Node("macro", start, self.done(), path=path)
         if record and self.is_next("{"):
             self.next()
             fields = self.listed("}", self.field)
@@ -498,9 +514,16 @@ class Items(Expressions):
 
     def file(self):
         items = []
+        while self.is_next("#") and self.peek(1) == "!":  # an attribute of the whole file
+            self.marks_of_file()
         while self.token() is not self.none:
             items.append(self.item())
         return items
+
+    def marks_of_file(self):
+        self.need("#")
+        self.need("!")
+        self.skip_group()
 
     def item(self):
         start = self.token().start
@@ -633,7 +656,7 @@ class Items(Expressions):
 
     def function(self, start):
         name = self.name_next()
-        self.lifetimes()
+        self.generics()
         self.need("(")
         parameters = self.listed(")", self.parameter)
         gives = self.type() if self.take("->") else "()"
@@ -662,8 +685,10 @@ class Items(Expressions):
         return (name, self.type())
 
     def impl(self, start):
-        self.lifetimes()
+        self.generics()
         of = self.type()
+        if self.take("for"):
+            of = self.type()
         items = self.in_braces()
         return Node("impl", start, self.done(), of=of, items=items)
 

@@ -17,26 +17,26 @@ SHAPE = ", `shape`"
 
 # The program that the differential test plays.
 TESTED = "settle"
-# The parts of target/ that a check writes; what `rt dev` keeps between its runs is in another, inc.
-BUILT = ("rlib", "stamp", "log", "obj", "bin")
+# The folder of a crate in which a check keeps its work, and a build its program.
+BUILT = "out"
 # How long the prover, the differential test and a program on its recorded input may take, in seconds.
 PROVING, TESTING, RUNNING = 3600, 3600, 120
 # No file that a changed program writes may fill the disk: 4 GiB, in blocks of 512 bytes.
 LIMITED = ["sh", "-c", 'ulimit -f 8388608; exec "$@"', "sh"]
 
 # An error continues in the indented lines after it.
-ERROR = re.compile(r"^(?P<place>/\S+?):\d+:\d+: error(?:\[[^\]]*\])?: (?P<what>.*(?:\n  .*)*)", re.M)
-NOTE = re.compile(r"^note: (?P<place>/\S+?):\d+:\d+: (?P<what>it is not proved .*)", re.M)
+PLACE = r"(?:\./)?(?P<place>(?:src|specs|proofs)/\S+?):\d+:\d+: "
+ERROR = re.compile(rf"^{PLACE}error(?:\[[^\]]*\])?: (?P<what>.*(?:\n  .*)*)", re.M)
+NOTE = re.compile(rf"^note: {PLACE}(?P<what>it is not proved .*?\(`[^`]*`\))", re.M)
 UNPROVED = re.compile(r"^fn \S+: no(?:t proved| proof)", re.M)
-NEED = re.compile(r"^`([^`]*)`:|\(`([^`]*)`\)$")
+GOAL = re.compile(r"^`([^`]*)`:|\(`([^`]*)`\)$")
 # An error that only follows from another one.
-FOLLOWS = "was not admitted (it has holes or undetermined implicits, or was rejected)"
-# What is said where a proof no longer fits the code: a need, or an argument of an invariant, is gone or has another
-# name. Such a refusal says nothing on the contract. Neither does an error in what ends a proof, where that lists the
-# needs in their order and one is at the place of another; it may also answer needs itself.
-UNFIT = ("can be named from here", "this pattern needs a function (or path) type to bind")
-LISTING = "-spec"
-MISPLACED = "Need-"
+FOLLOWS = ("was not admitted", "which was rejected")
+# What is said where a proof no longer fits the code: a goal, or an argument of an invariant, is gone or has another
+# name. Such a refusal says nothing on the contract.
+UNFIT = (
+    "can be named from here", "this pattern needs a function (or path) type to bind", "is not in scope", "has no field",
+)
 
 # Set once another job has failed: nothing more is to be tried.
 STOPPING = threading.Event()
@@ -56,12 +56,11 @@ def stop(process):
     process.wait()
 
 
-def run(words, folder, seconds, ended=None):
-    """Runs a command. Gives its exit status, None where it was stopped, and what it said. It is stopped after so many
-    seconds, or once `ended` says so."""
-    env = dict(os.environ, TMPDIR=str(folder / "tmp"))
-    env.setdefault("RT_JOBS", "1")
-    with tempfile.TemporaryFile(dir=folder / "tmp") as said:
+def run(words, folder, seconds, scratch, ended=None):
+    """Runs a command in a folder of a scratch copy. Gives its exit status, None where it was stopped, and what it said.
+    It is stopped after so many seconds, or once `ended` says so of what it has said."""
+    env = dict(os.environ, TMPDIR=str(scratch / "tmp"))
+    with tempfile.TemporaryFile(dir=scratch / "tmp") as said:
         process = subprocess.Popen(
             LIMITED + words, cwd=folder, env=env, stdout=said, stderr=subprocess.STDOUT, stdin=subprocess.DEVNULL,
             start_new_session=True,
@@ -71,7 +70,7 @@ def run(words, folder, seconds, ended=None):
             while process.poll() is None:
                 time.sleep(pause)
                 pause = min(pause * 1.5, 0.3)
-                if time.monotonic() - started > seconds or (ended and ended()):
+                if time.monotonic() - started > seconds or (ended and ended(read(said))):
                     stop(process)
                     return None, read(said)
                 if STOPPING.is_set():
@@ -87,32 +86,33 @@ def read(said):
     return os.pread(said.fileno(), os.fstat(said.fileno()).st_size, 0).decode("utf-8", "replace")
 
 
-def verdict(status, said, folder):
-    """What the prover said of a change: None where it accepts it, the first error's place, or not compiled."""
+def verdict(status, said, crate):
+    """What the prover said of a crate: None where it accepts it, the first error's place, or not compiled."""
     if status == 0 and re.search(r"^logic=proved", said, re.M):
         return None
     if status == 1 and re.search(r"^logic=not-proved", said, re.M):
-        return refusal(said, folder)
+        return refusal(said, crate)
     if status == 1 and "logic=" not in said and ERROR.search(said):
         return NOT_COMPILED
-    raise Unjudged(f"`rt dev` ended with status {status}")
+    raise Unjudged(f"`rt check` ended with status {status}")
 
 
-def refusal(said, folder):
-    """The file and the fact of the first error, passing over errors that only follow from another."""
+def refusal(said, crate):
+    """The file and the fact of the first error, passing over errors that only follow from another, and if there are
+    others also over those of a proof that no longer fits the code."""
     errors = [(error["place"], " ".join(error["what"].split())) for error in ERROR.finditer(said)]
-    own = [error for error in errors if FOLLOWS not in error[1]]
+    own = [error for error in errors if not any(words in error[1] for words in FOLLOWS)]
+    fitting = [error for error in own if not any(words in error[1] for words in UNFIT)]
     notes = [(note["place"], note["what"]) for note in NOTE.finditer(said)]
-    first = own or notes or errors
+    first = fitting or own or notes or errors
     if not first:
         named = UNPROVED.search(said)
         return named[0] if named else "no place given"
     place, what = first[0]
-    place = place.removeprefix(f"{folder}/crates/")
-    need = NEED.search(what)
-    name = need and (need[1] or need[2])
-    shape = any(words in what for words in UNFIT) or ((name or "").endswith(LISTING) and MISPLACED in what)
-    return place + (f" ({name})" if name else "") + (SHAPE if shape else "")
+    goal = GOAL.search(what)
+    name = goal and (goal[1] or goal[2])
+    shape = any(words in what for words in UNFIT)
+    return f"{crate}/{place}" + (f" ({name})" if name else "") + (SHAPE if shape else "")
 
 
 class Scratch:
@@ -125,13 +125,25 @@ class Scratch:
         for part in root.iterdir():
             if part.name not in (".git", "target"):
                 copy(part, self.folder / part.name)
-        for part in BUILT + ("inc",):
-            copy(root / "target" / part, self.folder / "target" / part)
         (self.folder / "tmp").mkdir(mode=0o755)
+        self.needs = needs_of(self.folder / "crates.txt")
         self.proved, self.tested = set(), set()
 
     def remove(self):
         shutil.rmtree(self.folder, ignore_errors=True)
+
+    def crate(self, name):
+        return self.folder / "crates" / name
+
+    def below(self, crate):
+        """All crates below a crate, and itself, lowest first."""
+        found, todo = set(), [crate]
+        while todo:
+            name = todo.pop()
+            if name not in found:
+                found.add(name)
+                todo += self.needs[name]
+        return [name for name in self.needs if name in found]
 
     def attempt(self, place, new):
         """What catches a change."""
@@ -139,84 +151,104 @@ class Scratch:
         self.prove(crate.name)
         file.write_text(place.changed(new), encoding="utf-8")
         try:
-            caught = self.dev(crate.name)
+            caught = self.check(crate.name)
             if caught:
                 return caught
         finally:
             file.write_text(place.unit.file.text, encoding="utf-8")
         return self.confirm(crate, file, place.changed(new))
 
-    def dev(self, crate):
-        return verdict(*run(["rt", "dev", crate], self.folder, PROVING), self.folder)
+    def check(self, crate):
+        """The verdict of the prover on one crate, over the crates below it as they are."""
+        return verdict(*run(["rt", "check", "--jobs", "1"], self.crate(crate), PROVING, self.folder), crate)
 
     def prove(self, crate):
         """Sees that a crate is proved as it is. Its proofs are then at hand, and each change takes seconds."""
         if crate not in self.proved:
-            if self.dev(crate):
-                raise Broken(f"{crate} is not proved as it is (`rt dev {crate}`)")
+            if self.check(crate):
+                raise Broken(f"{crate} is not proved as it is (`rt check` in crates/{crate})")
             self.proved.add(crate)
 
     def confirm(self, crate, file, text):
-        """What catches a change that `rt dev` accepts: the proofs of the crates above, up to the program, or its tests."""
+        """What catches a change that is proved in its own crate: the proofs of the crates above, up to the program, or
+        the program's tests."""
         program = crate.name if crate.is_program else TESTED
         if program not in self.tested:
-            if self.test(program) != NOTHING:
+            if self.test(program, crate.name) != NOTHING:
                 raise Broken(f"{program} fails its own tests as it is")
             self.tested.add(program)
-        # A program's check leaves the libraries as they are.
-        parts = [part for part in BUILT if part != "rlib" or not crate.is_program]
+        above = self.above(program, crate.name)
         before = file.read_text(encoding="utf-8")
-        saved = self.save(parts)
+        saved = self.save(above)
         file.write_text(text, encoding="utf-8")
         try:
-            return self.test(program)
+            return self.test(program, crate.name)
         finally:
             file.write_text(before, encoding="utf-8")
-            self.restore(saved, parts)
+            self.restore(saved, above)
 
-    def test(self, program):
-        """What catches a change in a program or below it. Only one program has the differential test."""
-        caught = self.check(program)
+    def above(self, program, crate):
+        """A crate and those above it, up to a program, lowest first."""
+        return [name for name in self.below(program) if crate in self.below(name)]
+
+    def test(self, program, crate):
+        """What catches a change in a crate: a proof of a crate above it, or a test of the program. Only one program has
+        the differential test."""
+        for name in self.above(program, crate):
+            if caught := self.check(name):
+                return caught
+        caught = self.play(program)
         if caught == NOTHING and program == TESTED:
             return self.differ()
         return caught
 
-    def check(self, program):
-        """The verdict of `rt check`, which also runs a program on its recorded input."""
-        result = self.folder / "target/log" / f"{program}.res"
-        result.unlink(missing_ok=True)
+    def play(self, program):
+        """Builds a program, and compares what it writes for its recorded input with its recorded output."""
         began = []
 
-        def hangs():
-            if not began and result.exists() and result.read_text() == "built\n":
+        def hangs(said):
+            if not began and f"running out/{program}" in said:
                 began.append(time.monotonic())
             return bool(began) and time.monotonic() - began[0] > RUNNING
 
-        status, said = run(["rt", "check", program], self.folder, PROVING, hangs)
-        if status == 0:
-            return NOTHING
-        if (began and status is None) or f"{program} proved, and its run FAILED" in said:
+        status, said = run(["rt", "run", "--jobs", "1"], self.crate(program), PROVING, self.folder, hangs)
+        if began and status is None:
             return RECORDED
-        if status == 1 and "logic=not-proved" in said:
-            return refusal(said, self.folder)
-        raise Unjudged(f"`rt check {program}` ended with status {status}")
+        built = self.crate(program) / BUILT / program
+        if f"running out/{program}" not in said or not built.exists():
+            raise Unjudged(f"`rt run` in crates/{program} ended with status {status}")
+        recorded = {name: self.crate(program) / name for name in ("stdin", "stdout")}
+        given = recorded["stdin"].read_bytes() if recorded["stdin"].exists() else b""
+        try:
+            done = subprocess.run(LIMITED + [built], input=given, capture_output=True, timeout=RUNNING)
+        except subprocess.TimeoutExpired:
+            return RECORDED
+        wanted = recorded["stdout"].read_bytes() if recorded["stdout"].exists() else b""
+        return NOTHING if (done.returncode, done.stdout) == (0, wanted) else RECORDED
 
     def differ(self):
-        status, _ = run([".ci/differential"], self.folder, TESTING)
+        status, _ = run([".ci/differential"], self.folder, TESTING, self.folder)
         return NOTHING if status == 0 else DIFFERENTIAL
 
-    def save(self, parts):
+    def save(self, crates):
+        """Keeps what the checks of these crates have kept."""
         saved = self.folder / "saved"
-        for part in parts:
-            copy(self.folder / "target" / part, saved / part)
+        for crate in crates:
+            copy(self.crate(crate) / BUILT, saved / crate)
         return saved
 
-    def restore(self, saved, parts):
-        for part in parts:
-            shutil.rmtree(self.folder / "target" / part, ignore_errors=True)
-            if (saved / part).exists():
-                (saved / part).rename(self.folder / "target" / part)
+    def restore(self, saved, crates):
+        for crate in crates:
+            shutil.rmtree(self.crate(crate) / BUILT, ignore_errors=True)
+            if (saved / crate).exists():
+                (saved / crate).rename(self.crate(crate) / BUILT)
         shutil.rmtree(saved)
+
+
+def needs_of(path):
+    """The crates of crates.txt in its order, each with the crates that its files name."""
+    text = path.read_text(encoding="utf-8")
+    return {name: names.split() for name, names in re.findall(r"^(\w+):(.*)$", text, re.M)}
 
 
 def copy(start, end):

@@ -45,6 +45,7 @@ pub struct Divided {
 }
 
 // Returns what q units are worth at a price.
+#[tactic(auto, unfolding(crate::specs::Amounts::value), using(crate::proofs::Bounds::product_most))]
 pub fn value_of(q: u64, price: u64) -> u64
     requires { (q ≤ most_quantity) × (price ≤ most_offer_price) }
     ensures { result ≡ value q price }
@@ -53,6 +54,7 @@ pub fn value_of(q: u64, price: u64) -> u64
 }
 
 // Returns the quotient, rounded to the nearest whole number; a half goes up.
+#[tactic(auto, unfolding(crate::specs::Quotients::rounded))]
 pub fn rounded_quotient(n: u64, d: u64) -> u64
     requires { (0 < d) × (n < 2 ^ 63) × (d < 2 ^ 63) }
     ensures { result ≡ rounded n d }
@@ -61,6 +63,7 @@ pub fn rounded_quotient(n: u64, d: u64) -> u64
 }
 
 // Returns the penalty of one day on q units that are outstanding.
+#[tactic(auto, unfolding(crate::specs::Amounts::penalty), using(crate::proofs::Bounds::product_most, crate::proofs::Bounds::value_most))]
 pub fn penalty_of(q: u64, price: u64, rate: u64) -> u64
     requires { (q ≤ most_quantity) × (price ≤ most_close_price) × (rate ≤ most_rate) }
     ensures { result ≡ penalty q price rate }
@@ -69,6 +72,7 @@ pub fn penalty_of(q: u64, price: u64, rate: u64) -> u64
 }
 
 // Returns the compensation for q units.
+#[tactic(auto, unfolding(crate::specs::Amounts::compensation), using(crate::proofs::Bounds::value_most))]
 pub fn compensation_of(q: u64, price: u64) -> u64
     requires { (q ≤ most_quantity) × (price ≤ most_close_price) }
     ensures { result ≡ compensation q price }
@@ -77,6 +81,7 @@ pub fn compensation_of(q: u64, price: u64) -> u64
 }
 
 // Returns what is due of an amount once t of q units are settled.
+#[tactic(auto, unfolding(crate::specs::Amounts::due_for), using(crate::proofs::Bounds::product_most))]
 fn due_for(amount: u64, q: u64, t: u64) -> u64
     requires { (amount ≤ most_amount) × (0 < q) × (q ≤ most_quantity) × (t ≤ q) }
     ensures { result ≡ due_for amount q t }
@@ -85,6 +90,7 @@ fn due_for(amount: u64, q: u64, t: u64) -> u64
 }
 
 // Returns the cash of a delivery: s of q units were settled before it, and t are settled after it.
+#[tactic(auto, unfolding(crate::specs::Amounts::cash), using(crate::proofs::Cash::due_rises))]
 pub fn cash_for(amount: u64, q: u64, s: u64, t: u64) -> u64
     requires { (amount ≤ most_amount) × (0 < q) × (q ≤ most_quantity) × (s ≤ t) × (t ≤ q) }
     ensures { result ≡ cash amount q s t }
@@ -93,6 +99,7 @@ pub fn cash_for(amount: u64, q: u64, s: u64, t: u64) -> u64
 }
 
 // Returns the charge for q units that are bought at a price, where this cash is due for them.
+#[tactic(auto, unfolding(crate::specs::Amounts::charge))]
 pub fn charge_for(q: u64, price: u64, cash: u64) -> u64
     requires { (q ≤ most_quantity) × (price ≤ most_offer_price) }
     ensures { result ≡ charge q price cash }
@@ -102,6 +109,7 @@ pub fn charge_for(q: u64, price: u64, cash: u64) -> u64
 }
 
 // Returns the tolerance of a match.
+#[tactic(auto, unfolding(crate::specs::Amounts::tolerance))]
 pub fn tolerance_of(delivering: u64) -> u64
     ensures { result ≡ tolerance delivering }
 {
@@ -113,6 +121,7 @@ pub fn tolerance_of(delivering: u64) -> u64
 }
 
 // Says whether two amounts are within the tolerance.
+#[tactic(auto, unfolding(crate::specs::Amounts::amounts_match))]
 pub fn amounts_match(delivering: u64, receiving: u64) -> bool
     ensures { result ≡ amounts_match delivering receiving }
 {
@@ -124,6 +133,7 @@ pub fn amounts_match(delivering: u64, receiving: u64) -> bool
 }
 
 // Says whether the price of an offer is above the cap.
+#[tactic(auto, unfolding(crate::specs::Amounts::above_cap))]
 pub fn above_cap(price: u64, grace_price: u64) -> bool
     requires { (price ≤ most_offer_price) × (grace_price ≤ most_close_price) }
     ensures { result ≡ above_cap price grace_price }
@@ -133,6 +143,7 @@ pub fn above_cap(price: u64, grace_price: u64) -> bool
 
 // Returns the quotient and the remainder of part × factor by whole. The product may exceed 64 bits. So the function
 // takes the factor digit by digit in base 32,768, as in long division: each call has one digit less.
+#[tactic(auto, using(crate::proofs::Products::quotient_most, crate::proofs::Products::step_is))]
 pub fn product_divided(part: u64, factor: u64, whole: u64) -> Divided
     requires { Part part whole }
     ensures { result ≡ divided (part * factor) whole }

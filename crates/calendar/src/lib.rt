@@ -39,6 +39,7 @@ pub struct ClosedDays {
 }
 
 // Whether the days of a list rise strictly and end by the last day.
+#[tactic(auto, using(crate::proofs::Closed::rises_more, crate::proofs::Closed::rises_end))]
 fn is_rising(days: &[u64]) -> bool
     ensures { result ≡ rises_from 0 days.now }
 {
@@ -56,6 +57,7 @@ fn is_rising(days: &[u64]) -> bool
 }
 
 // Whether a list of closed days is refused.
+#[tactic(auto, unfolding(crate::specs::Closed::closed_refused))]
 pub fn refuses_closed(days: &[u64]) -> bool
     ensures value { result ≡ closed_refused days.now }
     ensures days_stay { days.exit.now ≡ days.entry.now }
@@ -64,6 +66,7 @@ pub fn refuses_closed(days: &[u64]) -> bool
 }
 
 // How many weekdays there are up to a day, as if no day were closed.
+#[tactic(auto, using(crate::proofs::Counting::weekdays_by_weeks))]
 fn weekdays_to(day: Day) -> u64
     ensures { result ≡ weekdays_to day.0 }
 {
@@ -76,6 +79,7 @@ fn weekdays_to(day: Day) -> u64
 }
 
 // Whether a closed day is a weekday that is later than one day and not later than another.
+#[tactic(auto, unfolding(crate::specs::Days::takes_away))]
 fn takes_away(closed: Day, after: Day, to: Day) -> bool
     ensures { result ≡ takes_away closed after to }
 {
@@ -103,6 +107,7 @@ impl StoredDay {
 
 impl ClosedDays {
     // The closed days of a list.
+    #[tactic(auto, using(crate::proofs::Closed::stored_more, crate::proofs::Closed::stored_all))]
     pub fn of(list: &[u64]) -> ClosedDays
         requires { length list.now ≤ most_closed }
         ensures value { result ≡ closed_days list.now }
@@ -138,6 +143,7 @@ impl ClosedDays {
     }
 
     // Whether a day is a clearing day.
+    #[tactic(auto, unfolding(crate::specs::Days::clearing))]
     pub fn is_clearing(self, day: Day) -> bool
         ensures { result ≡ clearing (listed_days self) day }
     {
@@ -145,6 +151,7 @@ impl ClosedDays {
     }
 
     // The next clearing day after a day.
+    #[tactic(auto, using(crate::proofs::Walks::next_more, crate::proofs::Walks::next_none))]
     pub fn next_after(self, day: Day) -> NextDay
         ensures { result ≡ next_after (listed_days self) day }
     {
@@ -159,6 +166,7 @@ impl ClosedDays {
     }
 
     // The n-th clearing day after a day: for n above 0, the next one after the (n - 1)-th.
+    #[tactic(auto, unfolding(crate::specs::Days::nth_after, crate::specs::Days::next_of), using(crate::proofs::Walks::nth_none, crate::proofs::Walks::nth_more))]
     pub fn nth_after(self, day: Day, n: ClearingDays) -> NextDay
         ensures { result ≡ nth_after (listed_days self) day n }
     {
@@ -173,6 +181,7 @@ impl ClosedDays {
     }
 
     // How many closed days are weekdays that are later than one day and not later than another.
+    #[tactic(auto, unfolding(crate::specs::Days::closed_between), using(crate::proofs::Closed::listed_more, crate::proofs::Closed::listed_end))]
     fn closed_between(self, after: Day, to: Day) -> u64
         ensures { result ≡ closed_between (listed_days self) after to }
     {

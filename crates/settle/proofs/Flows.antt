@@ -1,63 +1,20 @@
 -- Laws of the flow: what a read brought, and where the input and the output stand before bytes of a line are taken.
 use Prim.Native.Nat.{ℕ, zero, suc, ◌+◌, ◌-◌, ◌≤◌}
 use native.Mathlib.Omega.{arith}
-use mathlib.Core.Path.{◌≡◌, refl, sym, ap, ◌∙◌}
-use mathlib.Core.Bool.{true, false}
+use mathlib.Core.Path.{◌≡◌, refl, ap, ◌∙◌}
 use mathlib.Core.List.{List}
 use lib.IntN.{ℤ, pos, negsuc}
 use lib.ListN.{length}
-use lib.Signed.{lt_z}
-use mir.Facts.{to_z-of_z}
-use mir.Syntax.{w64}
-use mir.Val.{SFits, to_z, of_z}
-use borrow.Author.Tests.{leb-true, ltb-true, ltb-false}
-use Rattle.basics.proofs.Cases.{never}
-use Rattle.io.specs.Counts.{clamp_len}
+use borrow.Author.Tests.{leb-true}
 use Rattle.lines.specs.declared.Feed.{Feed}
 use Rattle.lines.specs.Input.{filled_to, dropped_from}
 use Rattle.answers.specs.Text.{most_answer}
 use Rattle.settle.specs.declared.flow.Read.{Read}
-use Rattle.settle.specs.declared.flow.Read.TheVariants.{Bytes, Nothing, Error}
 use Rattle.settle.specs.declared.flow.Course.{Course}
 use Rattle.settle.specs.declared.flow.Course.TheVariants.{Going, Over}
 use Rattle.settle.specs.declared.flow.Flow.{Flow}
 use Rattle.settle.specs.Flow.{flow_at, read_of, failed_from, read_into, ReadOn, FedOn}
 use Rattle.settle.specs.Flow.FedOn.{ready, cleared, uncleared, fed, unfed}
-
--- what a read brought, by the tests whether the number that the system answered is below or above zero
-error_of : (z : ℤ) (most : ℕ) → lt_z z (pos 0) ≡ true → Error ≡ read_of z most
-unfolding read_of
-error_of (pos n) most e = let l = ltb-true n 0 e in absurd (omega arith)
-error_of (negsuc n) most e = refl
-
-bytes_of : (z : ℤ) (most : ℕ) → lt_z (pos 0) z ≡ true → Bytes (clamp_len z most) ≡ read_of z most
-unfolding read_of
-bytes_of (pos zero) most e = let l = ltb-true 0 0 e in absurd (omega arith)
-bytes_of (pos (suc n)) most e = refl
-bytes_of (negsuc n) most e = absurd (never e)
-
-nothing_of : (z : ℤ) (most : ℕ) → lt_z z (pos 0) ≡ false → lt_z (pos 0) z ≡ false → Nothing ≡ read_of z most
-unfolding read_of
-nothing_of (pos zero) most e f = refl
-nothing_of (pos (suc n)) most e f = let l = ltb-false 0 (suc n) f in absurd (omega arith)
-nothing_of (negsuc n) most e f = absurd (never (sym e))
-
--- the same, with the tests on the number as it stands in 64 bits
-module _ (z : ℤ) (fits : SFits w64 z) (most : ℕ) where
-  abbrev bits : ℤ
-  bits = to_z w64 (of_z w64 z)
-
-  same : bits ≡ z
-  same = to_z-of_z fits
-
-  pub read_error : lt_z bits (pos 0) ≡ true → Error ≡ read_of z most
-  read_error e = error_of z most (rw same at e)
-
-  pub read_bytes : {n : ℕ} → lt_z (pos 0) bits ≡ true → n ≡ clamp_len bits most → Bytes n ≡ read_of z most
-  read_bytes e c = rw c (rw same (bytes_of z most (rw same at e)))
-
-  pub read_nothing : lt_z bits (pos 0) ≡ false → lt_z (pos 0) bits ≡ false → Nothing ≡ read_of z most
-  read_nothing e f = nothing_of z most (rw same at e) (rw same at f)
 
 -- the flow after a read is as `ReadOn` says
 pub read_by : {f : Feed} {after : List ℕ} {r : Flow} (z : ℤ) (x : Read) → x ≡ read_of z (length after) → r ≡ read_into f x

@@ -75,6 +75,7 @@ fn write_all(mut output: Stdout, text: &[u8]) -> io::Result<()> {
 // reason on standard error.
 pub fn write_out(streams: Streams, out: &[u8], end: usize) -> bool
     requires { end ≤ length out.now }
+    ensures { out.exit.now ≡ out.entry.now }
 {
     match write_all(streams.answers, &out[..end]) {
         Ok(()) => true,
