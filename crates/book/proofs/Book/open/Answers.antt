@@ -1,5 +1,6 @@
 -- `open` meets its contract.
 use Prim.Native.Nat.{ℕ}
+use native.Mathlib.Omega.{arith}
 use mathlib.Core.Path.{refl, ap, sym, ◌∙◌}
 use borrow.Author.Tests.{lt-ltb, le-ltb}
 use Rattle.basics.proofs.Refusals.{pass, stop, all_passed, refused_by, done_by}
@@ -16,7 +17,7 @@ opened_with n b = record { answer = n; book = b }
 pub returns-then-terms-gt1 : goal.returns-then-terms-gt1
 unfolding opened open_refusals
 returns-then-terms-gt1 c = record {
-  value = ap (opened_with 1) c.refused.ensures ∙ refused_by 1 _ _ open_refused (stop 1 _ (lt-ltb _ _ c.if-terms-gt1.true)) refl;
+  value = ap (opened_with 1) c.refused.ensures ∙ refused_by 1 _ _ open_refused (stop 1 _ (lt-ltb 1 c.args.terms (omega arith))) refl;
   valid = rw c.refused.ensures refused_valid;
   closed_stays = refl;
 }
@@ -24,7 +25,7 @@ returns-then-terms-gt1 c = record {
 pub returns-then-refuses_closed : goal.returns-then-refuses_closed
 unfolding opened open_refusals
 returns-then-refuses_closed c = record {
-  value = ap (opened_with 4) c.refused-then-refuses_closed.ensures ∙ refused_by 4 _ _ open_refused (pass 1 _ (le-ltb _ _ c.if-terms-gt1.false) ∙ stop 4 _ (sym c.refuses_closed.ensures.value ∙ c.if-refuses_closed.true)) refl;
+  value = ap (opened_with 4) c.refused-then-refuses_closed.ensures ∙ refused_by 4 _ _ open_refused (pass 1 _ (le-ltb 1 c.args.terms (omega arith)) ∙ stop 4 _ (sym c.refuses_closed.ensures.value ∙ c.if-refuses_closed.true)) refl;
   valid = rw c.refused-then-refuses_closed.ensures refused_valid;
   closed_stays = refl;
 }
@@ -35,7 +36,7 @@ of-days-requires c = closed_short _ (sym c.refuses_closed.ensures.value ∙ c.if
 pub returns-then-is_bad_first : goal.returns-then-is_bad_first
 unfolding opened open_refusals
 returns-then-is_bad_first c = record {
-  value = ap (opened_with 11) c.refused-then-is_bad_first.ensures ∙ refused_by 11 _ _ open_refused (pass 1 _ (le-ltb _ _ c.if-terms-gt1.false) ∙ pass 4 _ (sym c.refuses_closed.ensures.value ∙ c.if-refuses_closed.false) ∙ stop 11 _ (rw c.of-days.ensures.value at (sym c.is_bad_first.ensures ∙ c.if-is_bad_first.true))) refl;
+  value = ap (opened_with 11) c.refused-then-is_bad_first.ensures ∙ refused_by 11 _ _ open_refused (pass 1 _ (le-ltb 1 c.args.terms (omega arith)) ∙ pass 4 _ (sym c.refuses_closed.ensures.value ∙ c.if-refuses_closed.false) ∙ stop 11 _ (rw c.of-days.ensures.value at (sym c.is_bad_first.ensures ∙ c.if-is_bad_first.true))) refl;
   valid = rw c.refused-then-is_bad_first.ensures refused_valid;
   closed_stays = refl;
 }
@@ -43,7 +44,7 @@ returns-then-is_bad_first c = record {
 pub returns : goal.returns
 unfolding opened open_refusals
 returns c = let g = rw c.of-days.ensures.value at (sym c.is_bad_first.ensures ∙ c.if-is_bad_first.false) in let h = first_good _ _ g in let q = c.fresh.ensures ∙ ap (λ (k : ClosedDays). fresh_book c.args.first k c.args.terms) c.of-days.ensures.value in record {
-  value = ap (opened_with 0) q ∙ done_by _ _ open_refused (pass 1 _ (le-ltb _ _ c.if-terms-gt1.false) ∙ pass 4 _ (sym c.refuses_closed.ensures.value ∙ c.if-refuses_closed.false) ∙ pass 11 _ g ∙ all_passed);
+  value = ap (opened_with 0) q ∙ done_by _ _ open_refused (pass 1 _ (le-ltb 1 c.args.terms (omega arith)) ∙ pass 4 _ (sym c.refuses_closed.ensures.value ∙ c.if-refuses_closed.false) ∙ pass 11 _ g ∙ all_passed);
   valid = rw q (fresh_valid _ _ c.args.terms (sym c.refuses_closed.ensures.value ∙ c.if-refuses_closed.false) h.0 h.1);
   closed_stays = refl;
 }
