@@ -1,5 +1,5 @@
 -- `settle_all` meets its contract.
-use Rattle.std.proofs.Common.{arith, refl, ap, ◌∙◌, ◌≡◌, ◌≤◌, ◌*◌, ℕ, List, length}
+use Rattle.std.proofs.Common.{rules, subst, arith, refl, ap, ◌∙◌, ◌≡◌, ◌≤◌, ◌*◌, ℕ, List, length}
 use lib.ListN.{length-replicate}
 use Rattle.ledger.specs.Lines.{words_in_line}
 use Rattle.book.specs.declared.Book.{Book}
@@ -11,9 +11,9 @@ use Rattle.answers.proofs.Tells.{nothing_tells, no_call_tells, numbers_tells, ba
 use Rattle.reading.specs.Calls.{most_listed}
 use Rattle.settle.specs.declared.calls.Asked.{Asked}
 use Rattle.settle.specs.declared.calls.Played.{Played}
-use Rattle.settle.specs.Calls.{played_with, lent_to, after_done, after_cancel, after_deliver, after_call, close_asked, again_asked, month_asked, shown_as, balance_as, answer_by}
+use Rattle.settle.specs.Calls.{played_with, lent_to, after_done, after_cancel, after_deliver, after_call, words_after, close_asked, again_asked, month_asked, shown_as, balance_as, answer_by}
 use Rattle.settle.specs.Turns.Gives.{opening, calling, showing, balancing, looking, targeting, ruling, passing, objecting}
-use Rattle.settle.proofs.Turning.{standing, Given, given_by_lem, call_line, numbers_given, shown_given, turned, took_within}
+use Rattle.settle.proofs.Turning.{standing, stopped, Given, given_by_lem, call_line, numbers_given, shown_given, turned, took_within}
 use Rattle.settle.proofs.Flows.{fed_kept, fed_ready}
 use Rattle.settle.proofs.settle_all.Goals as goal
 use Rattle.settle.proofs.settle_all.Goals.{in-Call+in-Open, in-Call+in-Enter, in-Call+in-Withdraw, in-Call+in-Cancel, in-Call+in-Deliver, in-Call+in-Offer, in-Call+in-Rate, in-Call+in-Close, in-Call+in-Again, in-Call+in-Month, in-Call+in-Status, in-Call+in-Account, in-Call+in-Look, in-Call+in-Target, in-Call+in-Rules, in-Comment, in-NoCall}
@@ -71,12 +71,17 @@ given c =
           (w.played-is ∙ w.done-played-in-Offer.ensures) w.offer.ensures.value w.offer.ensures.valid refl refl w.words-is
       | in-Call+in-Rate w ↦ numbers_given after_done w.in-Call.is w.in-Rate.is refl
           (w.played-is ∙ w.done-played-in-Rate.ensures) w.rate.ensures.value w.rate.ensures.valid refl refl w.words-is
-      | in-Call+in-Close w ↦ given_by_lem _ _ _ (call_line w.in-Call.is w.in-Close.is) (w.played-is ∙ w.close-played.ensures.value) (w.words-is ∙ w.close-played.ensures.words_after)
-          (calling _ _ _ _ refl) (rw w.close-played.ensures.value at w.close-played.ensures.valid) (close_tells b a c.loop-turns.words valid lends room same) same
-      | in-Call+in-Again w ↦ given_by_lem _ _ _ (call_line w.in-Call.is w.in-Again.is) (w.played-is ∙ w.again-played.ensures.value) (w.words-is ∙ w.again-played.ensures.words_after)
-          (calling _ _ _ _ refl) (rw w.again-played.ensures.value at w.again-played.ensures.valid) (again_tells b a c.loop-turns.words valid lends room same) same
-      | in-Call+in-Month w ↦ given_by_lem _ _ _ (call_line w.in-Call.is w.in-Month.is) (w.played-is ∙ w.month-played.ensures.value) (w.words-is ∙ w.month-played.ensures.words_after)
-          (calling _ _ _ _ refl) (rw w.month-played.ensures.value at w.month-played.ensures.valid) (month_tells b a c.ask-a.new.n c.loop-turns.words lends room same) same
+      | in-Call+in-Close w ↦ let e = w.close-played.ensures in
+          given_by_lem _ _ _ (call_line w.in-Call.is w.in-Close.is) (w.played-is ∙ e.value) (w.words-is ∙ e.words_after)
+          (calling _ _ _ _ refl) (rw e.value at e.valid) (close_tells b a c.loop-turns.words valid lends room same) same
+      | in-Call+in-Again w ↦ let is : c.match-kind.played ≡ after_call b a (again_asked a) = cc in
+          let left : c.match-kind.words ≡ words_after b a (again_asked a) c.loop-turns.words = cc in
+          let good : Valid c.match-kind.played.book = rw w.played-is (search rules) in
+          given_by_lem _ _ _ (call_line w.in-Call.is w.in-Again.is) is left (calling _ _ _ _ refl)
+          (subst (λ (x : Played). Valid x.book) is good) (again_tells b a c.loop-turns.words valid lends room same) same
+      | in-Call+in-Month w ↦ let e = w.month-played.ensures in
+          given_by_lem _ _ _ (call_line w.in-Call.is w.in-Month.is) (w.played-is ∙ e.value) (w.words-is ∙ e.words_after)
+          (calling _ _ _ _ refl) (rw e.value at e.valid) (month_tells b a c.ask-a.new.n c.loop-turns.words lends room same) same
       | in-Call+in-Status w ↦ shown_given (call_line w.in-Call.is w.in-Status.is) (showing _ _)
           (w.played-is ∙ ap (played_with b) (w.shown-played.ensures ∙ ap shown_as w.status.ensures.value)) w.words-is valid
           (numbers_tells _ _ (omega arith))
@@ -148,3 +153,12 @@ loop-turns-preserved c =
       words_same = g.same ∙ i.words_same;
       out_same = out ∙ i.out_same;
     }
+
+pub returns-clause-plays_in : goal.returns-clause-plays_in
+returns-clause-plays_in c = record {
+  book = c.loop-turns.played.book;
+  flow = c.loop-turns.flow;
+  answers = c.loop-turns.out;
+  plays = stopped (omega (arith, c.loop-turns-test.false)) c.loop-turns.invariant.stands;
+  last = c.tell_last.ensures.out_after;
+}
