@@ -1,7 +1,10 @@
 #!/usr/bin/env python3
 """Mends what a check says of the proofs of a crate where the message says what to write, and checks again.
 
-usage: python3 tools/mend.py CRATE [ROUNDS]      at the top of the repository
+usage: python3 tools/mend.py CRATE [ROUNDS [NAMES]]      at the top of the repository
+
+NAMES is the names.json that `rt check --generated DIR --old-names` writes in the crate; with it, places that a proof
+hands to a lemma are mended too.
 
 It numbers no more where a record has names now, adds the impossible cases that a lemma lacks, and has the check write
 missing imports. What is left it prints.
@@ -111,8 +114,8 @@ names_of = {}
 
 
 def main():
-    if os.path.exists(f"/tmp/x/names-{sys.argv[1]}/names.json"):
-        for key, it in json.load(open(f"/tmp/x/names-{sys.argv[1]}/names.json")).items():
+    if len(sys.argv) > 3:
+        for key, it in json.load(open(sys.argv[3])).items():
             if isinstance(it, dict) and "places" in it:
                 names_of[re.sub(r"\.Lts.*$", "", key)] = {p[0]: p[1] for p in it["places"]}
     crate, rounds = sys.argv[1], int(sys.argv[2]) if len(sys.argv) > 2 else 6
