@@ -6,33 +6,32 @@ use Rattle.lines.specs.Input.{used_up}
 use Rattle.settle.specs.declared.flow.Flow.{Flow}
 use Rattle.settle.specs.Flow.FedOn.{ready, cleared, uncleared, fed, unfed}
 use Rattle.settle.proofs.flow.feed_on.Goals as goal
+use Rattle.settle.proofs.flow.feed_on.Goals.{Then-is_used_up, Else-is_used_up}
+
+-- all that was read is used up
+used : (c : Then-is_used_up) → used_up c.args.flow.feed ≡ true
+used c = sym c.is_used_up.ensures ∙ c.if-is_used_up.true
+
+-- bytes are left
+unused : (c : Else-is_used_up) → used_up c.args.flow.feed ≡ false
+unused c = sym c.is_used_up.ensures ∙ c.if-is_used_up.false
 
 pub returns-then-write_out : goal.returns-then-write_out
 returns-then-write_out c =
-    let flow : Flow = c.args.flow in
-    let used : used_up flow.feed ≡ true = sym c.is_used_up.ensures ∙ c.if-is_used_up.true in
     fed used c.read_on.auto.part c.read_on.ensures
 
 pub returns-then-is_used_up : goal.returns-then-is_used_up
 returns-then-is_used_up c =
-    let flow : Flow = c.args.flow in
-    let used : used_up flow.feed ≡ true = sym c.is_used_up.ensures ∙ c.if-is_used_up.true in
-    rw c.failed.ensures (unfed used refl)
+    rw c.failed.ensures (unfed (used (goal.at.returns-then-is_used_up c).Then-is_used_up) refl)
 
 pub returns-then-flow-out : goal.returns-then-flow-out
 returns-then-flow-out c =
-    let flow : Flow = c.args.flow in
-    let unused : used_up flow.feed ≡ false = sym c.is_used_up.ensures ∙ c.if-is_used_up.false in
-    ready unused (le-leb _ _ c.if-flow-out.true) refl
+    ready (unused (goal.at.returns-then-flow-out c).Else-is_used_up) (le-leb _ _ c.if-flow-out.true) refl
 
 pub returns-then-write_out-2 : goal.returns-then-write_out-2
 returns-then-write_out-2 c =
-    let flow : Flow = c.args.flow in
-    let unused : used_up flow.feed ≡ false = sym c.is_used_up.ensures ∙ c.if-is_used_up.false in
-    cleared unused (lt-leb _ _ c.if-flow-out.false) refl
+    cleared (unused (goal.at.returns-then-write_out-2 c).Else-is_used_up) (lt-leb _ _ c.if-flow-out.false) refl
 
 pub returns : goal.returns
 returns c =
-    let flow : Flow = c.args.flow in
-    let unused : used_up flow.feed ≡ false = sym c.is_used_up.ensures ∙ c.if-is_used_up.false in
-    rw c.failed-2.ensures (uncleared unused (lt-leb _ _ c.if-flow-out.false) refl)
+    rw c.failed-2.ensures (uncleared (unused (goal.at.returns c).Else-is_used_up) (lt-leb _ _ c.if-flow-out.false) refl)
