@@ -3,7 +3,6 @@ use mathlib.Core.Path.{◌≡◌, refl, sym, ◌∙◌}
 use mathlib.Core.Bool.{true, false}
 use borrow.Author.Tests.{le-leb, lt-leb}
 use Rattle.lines.specs.Input.{used_up}
-use Rattle.settle.specs.declared.flow.Flow.{Flow}
 use Rattle.settle.specs.Flow.FedOn.{ready, cleared, uncleared, fed, unfed}
 use Rattle.settle.proofs.flow.feed_on.Goals as goal
 use Rattle.settle.proofs.flow.feed_on.Goals.{Then-is_used_up, Else-is_used_up}
@@ -18,7 +17,7 @@ unused c = sym c.is_used_up.ensures ∙ c.if-is_used_up.false
 
 pub returns-then-write_out : goal.returns-then-write_out
 returns-then-write_out c =
-    fed used c.read_on.auto.part c.read_on.ensures
+    fed (used (goal.at.returns-then-write_out c).Then-is_used_up) c.read_on.auto.part c.read_on.ensures
 
 pub returns-then-is_used_up : goal.returns-then-is_used_up
 returns-then-is_used_up c =
