@@ -1,13 +1,12 @@
 -- Each call's refusals: it answers n exactly where n's condition holds and no smaller number's does (`refuses_by`), and
 -- is done exactly where no condition holds (`refuses_none`).
+use Rattle.std.specs.Prelude.{Option, Some, None}
 use Prim.Native.Nat.{ℕ}
 use mathlib.Core.Path.{◌≡◌, refl}
 use mathlib.Core.List.{List, [], ◌∷◌}
 use Rattle.basics.specs.Refusals.{refuse}
 use Rattle.basics.proofs.Refusals.{Refuses, is_printed, outcome_refuses}
 use Rattle.calendar.specs.declared.Day.{Day}
-use Rattle.calendar.specs.declared.NextDay.{NextDay}
-use Rattle.calendar.specs.declared.NextDay.TheVariants.{At, Never}
 use Rattle.instructions.specs.declared.Leg.{Leg}
 use Rattle.instructions.specs.declared.Fit.{Fit}
 use Rattle.instructions.specs.declared.Fit.TheVariants.{With, Nobody}
@@ -94,10 +93,10 @@ module _ (b : Book) where
   unfolding close close_by close_refusals close_refusals_in
   close_refuses price words = by (next_day b)
     where
-      by : (t : NextDay) → Refuses (close_refusals price words t (force_of b)) (close_by b price words t).answer
-      by Never = record { printed = is_printed (close_refusals price words Never (force_of b)) refl; given = refl }
-      by (At next) =
-          outcome_refuses (λ (r : Closed). r.answer) (close_refusals price words (At next) (force_of b)) _ (close_refused b) refl refl (λ k. refl)
+      by : (t : Option Day) → Refuses (close_refusals price words t (force_of b)) (close_by b price words t).answer
+      by None = record { printed = is_printed (close_refusals price words None (force_of b)) refl; given = refl }
+      by (Some next) =
+          outcome_refuses (λ (r : Closed). r.answer) (close_refusals price words (Some next) (force_of b)) _ (close_refused b) refl refl (λ k. refl)
 
   pub again_refuses : (words : ℕ) → Refuses (again_refusals b.day.has_closed words) (again b words).answer
   unfolding again again_refusals

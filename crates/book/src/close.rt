@@ -4,7 +4,6 @@ ghost use Rattle.book.specs.Book.{Valid};
 ghost use Rattle.book.specs.Close.{close_refused, close, close_words};
 
 use crate::{Book, BookDay, Closed};
-use calendar::NextDay;
 use closing::DayEnd;
 use rates::InForce;
 use reprint::LastClose;
@@ -34,9 +33,8 @@ impl Book {
             return self.leaves_open(number);
         }
         let setup = self.setup;
-        let closed_days = setup.closed_days;
         let today = self.day.today;
-        let NextDay::At(next) = closed_days.next_after(today) else {
+        let Some(next) = setup.closed_days.next_after(today) else {
             return self.leaves_open(20);
         };
         let InForce::Since(row) = self.rates.in_force(today) else {

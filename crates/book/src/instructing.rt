@@ -143,8 +143,12 @@ impl Book {
         };
         let legs = self.legs;
         let ledger = self.ledger;
-        let closed_days = self.setup.closed_days;
-        let number = refusals::enter_answer(closed_days, self.day.today, legs.count, asked);
+        let number = refusals::enter_answer(
+            &self.setup.closed_days,
+            self.day.today,
+            legs.count,
+            asked,
+        );
         let entry = legs.entry(number, asked);
         let legs_before = legs.count as u64;
         let obligations_before = ledger.count as u64;

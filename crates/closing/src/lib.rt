@@ -255,8 +255,7 @@ fn close_due(
 {
     let terms = day.setup.terms;
     let price = day.price;
-    let closed_days = day.setup.closed_days;
-    let age = closed_days.age_at(o.deal.day, day.today);
+    let age = day.setup.closed_days.age_at(o.deal.day, day.today);
     let measures = measures_at(terms, age, o);
     let start = Closing {
         obligation: keep_price(o, terms, age, price),

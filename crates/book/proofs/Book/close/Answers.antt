@@ -1,10 +1,10 @@
 -- `close` meets its contract.
+use Rattle.std.specs.Prelude.{Some}
 use native.Mathlib.Omega.{arith}
 use mathlib.Core.Path.{◌≡◌, sym, ap, ◌∙◌}
 use mathlib.Core.Bool.{false}
 use lib.ListN.{length}
 use Rattle.basics.specs.Refusals.{answer}
-use Rattle.calendar.specs.declared.NextDay.TheVariants.{At}
 use Rattle.closing.specs.declared.DayEnd.{DayEnd}
 use Rattle.rates.specs.declared.InForce.TheVariants.{Since}
 use Rattle.rates.specs.Force.{is_unset, rate_of}
@@ -14,15 +14,15 @@ use Rattle.book.specs.Close.{next_day, force_of, day_end}
 use Rattle.book.proofs.Ended.{refused_end, done_closable, done_keepable, done_end}
 use Rattle.refusals.proofs.Ending.{close_refused, close_never, close_unset}
 use Rattle.book.proofs.Book.close.Goals as goal
-use Rattle.book.proofs.Book.close.Goals.{Else-number-ne0, In-At, In-Since}
+use Rattle.book.proofs.Book.close.Goals.{Else-number-ne0, In-Some, In-Since}
 
 -- no refusal from the input holds
 passes : (c : Else-number-ne0) → let a = c.args in answer (close_refusals_in a.price (length a.lines.now)) ≡ 0
 passes c = sym c.close_answer_in-number.ensures ∙ c.if-number-ne0.false
 
 -- the next clearing day was found
-next_day_is : (c : In-At) → next_day c.args.self ≡ At c.in-At.next
-next_day_is c = sym c.next_after.ensures ∙ c.in-At.is
+next_day_is : (c : In-Some) → next_day c.args.self ≡ Some c.in-Some.next
+next_day_is c = sym c.next_after.ensures ∙ c.in-Some.is
 
 -- a rate is in force
 in_force : (c : In-Since) → force_of c.args.self ≡ Since c.in-Since.row
@@ -58,18 +58,18 @@ pub returns-in_default-in_force : goal.returns-in_default-in_force
 returns-in_default-in_force c =
     let a = c.args in
     refused_end a.self c.requires a.price 26 a.lines.now _ c.leaves_open-in_default-in_force.ensures
-    (close_unset _ _ _ _ _ (next_day_is (goal.at.returns-in_default-in_force c).In-At) (sym c.in_force.ensures ∙ c.in_default-in_force.is) (passes (goal.at.returns-in_default-in_force c).Else-number-ne0))
+    (close_unset _ _ _ _ _ (next_day_is (goal.at.returns-in_default-in_force c).In-Some) (sym c.in_force.ensures ∙ c.in_default-in_force.is) (passes (goal.at.returns-in_default-in_force c).Else-number-ne0))
     (λ z. absurd (omega arith))
 
 pub close-done-requires : goal.close-done-requires
 close-done-requires c =
     let a = c.args in
-    done_closable a.self c.requires a.price a.lines.now (passes (goal.at.close-done-requires c).Else-number-ne0) _ (next_day_is (goal.at.close-done-requires c).In-At) (is_set (goal.at.close-done-requires c).In-Since) _ (same_end (goal.at.close-done-requires c).In-Since)
+    done_closable a.self c.requires a.price a.lines.now (passes (goal.at.close-done-requires c).Else-number-ne0) _ (next_day_is (goal.at.close-done-requires c).In-Some) (is_set (goal.at.close-done-requires c).In-Since) _ (same_end (goal.at.close-done-requires c).In-Since)
 
 pub of-kept-requires : goal.of-kept-requires
 of-kept-requires c =
-    done_keepable _ c.requires _ _ (passes (goal.at.of-kept-requires c).Else-number-ne0) _ (next_day_is (goal.at.of-kept-requires c).In-At) (is_set (goal.at.of-kept-requires c).In-Since) _ (same_end (goal.at.of-kept-requires c).In-Since) _ _ _ c.close-done.ensures
+    done_keepable _ c.requires _ _ (passes (goal.at.of-kept-requires c).Else-number-ne0) _ (next_day_is (goal.at.of-kept-requires c).In-Some) (is_set (goal.at.of-kept-requires c).In-Since) _ (same_end (goal.at.of-kept-requires c).In-Since) _ _ _ c.close-done.ensures
 
 pub returns : goal.returns
 returns c =
-    done_end _ c.requires _ _ (passes (goal.at.returns c).Else-number-ne0) _ (next_day_is (goal.at.returns c).In-At) (is_set (goal.at.returns c).In-Since) _ (same_end (goal.at.returns c).In-Since) _ _ _ c.close-done.ensures _ c.of-kept.ensures.value
+    done_end _ c.requires _ _ (passes (goal.at.returns c).Else-number-ne0) _ (next_day_is (goal.at.returns c).In-Some) (is_set (goal.at.returns c).In-Since) _ (same_end (goal.at.returns c).In-Since) _ _ _ c.close-done.ensures _ c.of-kept.ensures.value
