@@ -89,9 +89,10 @@ impl Book {
                 book: self,
             };
         }
+        let obligation = self.late_of(member);
         Looked {
             answer: 0,
-            obligation: self.late_of(member),
+            obligation: obligation,
             book: self,
         }
     }

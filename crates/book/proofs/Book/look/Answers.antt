@@ -17,6 +17,6 @@ returns-then-member-gt-LAST_MEMBER c = record {
 
 pub returns : goal.returns
 returns c = let e = pass 1 _ (le-ltb _ _ c.if-member-gt-LAST_MEMBER.false) ∙ all_passed in record {
-  looks = record { number = sym e; choice = λ q. c.late_of.ensures; zero = λ q. absurd (q e); same = refl };
+  looks = record { number = sym e; choice = λ q. c.late_of-obligation.ensures; zero = λ q. absurd (q e); same = refl };
   valid = c.requires;
 }
