@@ -28,12 +28,12 @@ close_due-closed-requires-clause-room c =
 pub loop-i-preserved : goal.loop-i-preserved
 loop-i-preserved c =
     elim c.if-is_due.branch [
-      then-is_due w ↦
-        rw (w.ledger-is, w.lines-is, w.count-is)
-        (done_due _ _ _ _ _ _ _ c.loop-i.invariant (sym c.is_due.ensures ∙ w.if-is_due.true) _
-        (rw (← w.penalty_sides-sides.ensures, ← w.penalty_on-cents.ensures) w.transfer.ensures) _ _ w.close_due-closed.ensures)
+      | then-is_due w ↦
+          rw (w.ledger-is, w.lines-is, w.count-is)
+          (done_due _ _ _ _ _ _ _ c.loop-i.invariant (sym c.is_due.ensures ∙ w.if-is_due.true) _
+          (rw (← w.penalty_sides-sides.ensures, ← w.penalty_on-cents.ensures) w.transfer.ensures) _ _ w.close_due-closed.ensures)
       | else-is_due w ↦
-        rw (w.ledger-is, w.lines-is, w.count-is) (done_idle _ _ _ _ _ _ _ c.loop-i.invariant (sym c.is_due.ensures ∙ w.if-is_due.false))
+          rw (w.ledger-is, w.lines-is, w.count-is) (done_idle _ _ _ _ _ _ _ c.loop-i.invariant (sym c.is_due.ensures ∙ w.if-is_due.false))
     ]
 
 pub returns : goal.returns

@@ -63,7 +63,7 @@ insert-self-requires c =
 -- what an Offer returns, if it is the outcome by its refusals
 returned : (c : After-offer_answer-number) → let a = c.args in (r : Done) →
     r ≡ outcome (answer (fetch_refusals (offer_refusals_in a.supplier a.quantity a.price) (fetched a.self.ledger a.obligation) (offer_refusals_for a.self a.price)))
-        (offer_done a.self a.obligation a.supplier a.quantity a.price) (done_refused a.self) →
+    (offer_done a.self a.obligation a.supplier a.quantity a.price) (done_refused a.self) →
     record { value : r ≡ offer a.self a.obligation a.supplier a.quantity a.price; valid : Valid r.book }
 unfolding offer offer_refusals_in
 returned c r e =
