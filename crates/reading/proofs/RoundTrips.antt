@@ -21,7 +21,6 @@ use Rattle.reading.specs.Words.{first_word, further_words, words_of}
 use Rattle.reading.specs.Calls.{Naming, namings, naming_of, shape_right, with_number, numbers_of}
 use Rattle.reading.specs.Lines.{is_comment, most_bytes, call_with, meaning_of}
 use Rattle.reading.specs.Lines.Meaning.{call}
-
 use Rattle.reading.proofs.Values.{value_append}
 use Rattle.reading.proofs.Spelling.{only_letters, Usable, usable_found}
 

@@ -1,5 +1,5 @@
 -- The shapes of calls, in the way the program tests them: the arguments are the first numbers of a buffer.
-use Prim.Native.Nat.{ℕ, ◌+◌, ◌-◌, ◌≤◌, ◌<◌}
+use Prim.Native.Nat.{ℕ, ◌+◌, ◌≤◌, ◌<◌}
 use native.Mathlib.Omega.{arith}
 use mathlib.Core.Path.{◌≡◌, refl, sym}
 use mathlib.Core.Bool.{Bool, true, false, ◌&&◌}
@@ -8,8 +8,8 @@ use Rattle.std.specs.Prelude.{Some, unwrap_or}
 use Rattle.std.specs.Bool.{then_some}
 use lib.Dec.{eqb, leb}
 use lib.ListN.{length, get_or, take}
-use lib.Seq.{length-take-le, get_or-take}
-use borrow.Author.Tests.{eq-eqb, ne_eqb, le-leb, lt-leb, eqb-true, eqb-false, leb-true}
+use lib.Seq.{length-take-le}
+use borrow.Author.Tests.{ne_eqb, leb-true}
 use Rattle.basics.specs.Choice.{pick}
 use Rattle.basics.proofs.Cases.{and_true, and_no}
 use Rattle.reading.specs.Calls.{Naming, most_listed, most_numbers, counted, lists_of, listable, shape_right}

@@ -11,9 +11,7 @@ use lib.ListN.{length, get_or, take, drop}
 use lib.Seq.{sets, length-sets}
 use borrow.Author.Tests.{eq-eqb, ne_eqb, lt-ltb, le-ltb, leb-true, leb-false}
 use Rattle.basics.specs.Choice.{pick}
-use Rattle.basics.proofs.Fronts.{up_most, up_taken}
 use Rattle.basics.proofs.Stores.{sets_front}
-use Rattle.writing.specs.Words.{space}
 use Rattle.reading.specs.Numbers.{number_of}
 use Rattle.reading.specs.Words.{first_word, further_words, words_of}
 use Rattle.reading.specs.Calls.{Naming, most_numbers, naming_of, shape_right, with_number, numbers_of}

@@ -133,7 +133,7 @@ module _ (places : List ℕ) (count : ℕ) (within : count ≤ length places) wh
 
   -- this holds of every entry of the table
   same_every : Every (λ x. Same x.name x.shape) namings
-  unfolding namings asked_call
+  unfolding asked_call
   same_every =
       also same_open
       (also same_enter

@@ -1,14 +1,10 @@
 -- `read_call` meets its contract: there is a law on what is told of the line for each place where the function returns.
-use Rattle.std.proofs.Common.{rules, tests, arith, ◌≡◌, ◌≤◌, ◌+◌, eqb, length, take, sym, ap, ◌∙◌}
-use Rattle.std.specs.Prelude.{unwrap_or}
-use Rattle.std.specs.Bool.{then_some}
+use Rattle.std.proofs.Common.{rules, tests, arith, ◌≡◌, ◌≤◌, ◌+◌, eqb, length, take, sym, ◌∙◌}
 use Rattle.std.proofs.lemmas.Iterator.{YieldsList-from_slice}
 use Rattle.std.proofs.lemmas.Iterator.Search.{position_from_yields_List}
 use lib.Seq.{length-take-le}
 use Rattle.writing.specs.Words.{space}
 use Rattle.reading.specs.Words.{first_word}
-use Rattle.reading.specs.Calls.{shape_right}
-use Rattle.reading.specs.declared.Line.TheVariants.{Call, NoCall}
 use Rattle.reading.proofs.Splitting.{word_at, word_length, whole_tail}
 use Rattle.reading.proofs.Understanding.{Headed, Told, shaped, is_made, unnamed, alone, not_all, count_within, is_shaped}
 use Rattle.reading.proofs.read_call.Goals as goal
@@ -35,11 +31,11 @@ joined c h =
     elim c.if-end-line.branch [
       | then-end-line w ↦ rw (w.count-is, w.numbers-is) (omega arith, alone _ c.args.numbers.now _ _ _ h w.if-end-line.true)
       | else-end-line+in_ok-count w ↦
-        let few = sym w.in_ok-count.was ∙ w.read_numbers.ensures.value in
-        rw (w.count-is, w.numbers-is) (
-          count_within _ c.args.numbers.now _ _ _ h w.if-end-line.false _ (whole_tail c.args.line.now (c.unwrap_or-end.result + 1)) w.read_numbers.ensures.numbers_after _ few,
-          is_shaped _ c.args.numbers.now _ _ _ h w.if-end-line.false _ (whole_tail c.args.line.now (c.unwrap_or-end.result + 1)) w.read_numbers.ensures.numbers_after _ few,
-        )
+          let few = sym w.in_ok-count.was ∙ w.read_numbers.ensures.value in
+          rw (w.count-is, w.numbers-is) (
+            count_within _ c.args.numbers.now _ _ _ h w.if-end-line.false _ (whole_tail c.args.line.now (c.unwrap_or-end.result + 1)) w.read_numbers.ensures.numbers_after _ few,
+            is_shaped _ c.args.numbers.now _ _ _ h w.if-end-line.false _ (whole_tail c.args.line.now (c.unwrap_or-end.result + 1)) w.read_numbers.ensures.numbers_after _ few,
+          )
     ]
 
 pub slice_bounds-name_of-end : goal.slice_bounds-name_of-end

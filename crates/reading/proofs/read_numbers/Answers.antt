@@ -1,13 +1,13 @@
 -- `read_numbers` meets its contract. The loop's invariant is `Collected`: the numbers so far stand in the first places,
 -- and with those of the other words they are all the numbers.
-use Rattle.std.proofs.Common.{rules, tests, arith, ◌≡◌, refl, ◌+◌, [], ◌∷◌, eqb, length, drop, sym, ◌∙◌}
+use Rattle.std.proofs.Common.{rules, tests, arith, ◌≡◌, refl, ◌+◌, [], ◌∷◌, eqb, drop, sym, ◌∙◌}
 use Rattle.std.proofs.lemmas.List.{length_push}
 use Rattle.std.proofs.lemmas.Iterator.Consumers.{YieldsList-turn, YieldsList-end}
 use Rattle.std.proofs.lemmas.Iterator.Splits.{YieldsList-from_slice_split}
 use Rattle.writing.specs.Words.{space}
 use Rattle.reading.specs.Words.{words_of}
 use Rattle.reading.proofs.Splitting.{next_word, last_word}
-use Rattle.reading.proofs.Collecting.{collected_none, collected_length, collected_fails, collected_full, collected_last, collected_more}
+use Rattle.reading.proofs.Collecting.{collected_none, collected_fails, collected_full, collected_last, collected_more}
 use Rattle.reading.proofs.read_numbers.Goals as goal
 use Rattle.reading.proofs.read_numbers.Goals.{In-Some, In-None}
 
