@@ -42,10 +42,8 @@ impl Book {
         ensures value { result ≡ offer self obligation supplier quantity price }
         ensures valid { Valid result.book }
     {
-        let mut ledger = self.ledger;
-        let mut held = ledger.offers;
         let number = offer_answer(
-            ledger,
+            self.ledger,
             obligation,
             self.setup,
             self.day.today,
@@ -54,15 +52,13 @@ impl Book {
             price,
         );
         if number == 0 {
-            held = held.insert(Offer {
+            self.ledger.offers.insert(Offer {
                 obligation: obligation as u16,
                 supplier: supplier as u16,
                 quantity: quantity as u32,
                 price: price as u32,
             });
         }
-        ledger.offers = held;
-        self.ledger = ledger;
         Done {
             answer: number,
             book: self,

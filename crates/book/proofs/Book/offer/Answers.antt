@@ -1,8 +1,8 @@
 -- `offer` meets its contract.
 use Prim.Native.Nat.{ℕ, ◌<◌}
 use native.Mathlib.Omega.{arith}
-use mathlib.Core.Path.{◌≡◌, refl, sym, ap, ap₂, ◌∙◌}
-use Rattle.basics.specs.Refusals.{answer}
+use mathlib.Core.Path.{◌≡◌, refl, sym, ap₂, ◌∙◌}
+use Rattle.basics.specs.Refusals.{answer, outcome}
 use Rattle.basics.proofs.Refusals.{refused_with, done_by}
 use Rattle.offers.specs.declared.Offers.{Offers}
 use Rattle.ledger.specs.Ledger.{fetched, obligation_at}
@@ -16,7 +16,7 @@ use Rattle.book.specs.Buying.{offer_refusals_for, offer_answer_by, offer_done, o
 use Rattle.book.proofs.Answers.{answered}
 use Rattle.book.proofs.Kept.{offer_valid}
 use Rattle.book.proofs.Book.offer.Goals as goal
-use Rattle.book.proofs.Book.offer.Goals.{After-offer_answer-number, Then-number-eq0, else-number-eq0, then-number-eq0}
+use Rattle.book.proofs.Book.offer.Goals.{After-offer_answer-number, Then-number-eq0}
 
 -- the answer number, by the obligation that the book fetches
 number : (c : After-offer_answer-number) →
@@ -27,48 +27,68 @@ unfolding offer_answer_by
 number c = sym c.offer_answer-number.ensures
 
 -- an offer that is not refused
-passes : (c : After-offer_answer-number) → c.offer_answer-number.result ≡ 0 →
+passes : (c : Then-number-eq0) →
     let a = c.args in
     (a.obligation < a.self.ledger.count) × (answer (offer_refusals_in a.supplier a.quantity a.price) ≡ 0)
     × (answer (offer_refusals_for a.self a.price (obligation_at a.self.ledger a.obligation)) ≡ 0)
 unfolding offer_refusals_in
-passes c e = let a = c.args in fetch_passed _ (offer_refusals_for a.self a.price) refl a.self.ledger a.obligation (number c ∙ e)
+passes c =
+    let a = c.args in
+    fetch_passed _ (offer_refusals_for a.self a.price) refl a.self.ledger a.obligation (number c.before ∙ c.if-number-eq0.true)
 
 -- its numbers
 numbers : (c : Then-number-eq0) → let a = c.args in Offered a.supplier a.quantity a.price
-numbers c = offered _ _ _ (passes c.before c.if-number-eq0.true).1
+numbers c = offered _ _ _ (passes c).1
 
 pub offer_answer-number-requires : goal.offer_answer-number-requires
 offer_answer-number-requires c = let h = c.requires in (h.ledger, h.setup)
 
 pub overflow_cast-obligation : goal.overflow_cast-obligation
-overflow_cast-obligation c = record { fits = omega (arith, (passes c.before c.if-number-eq0.true).0, c.requires.ledger.few) }
+overflow_cast-obligation c =
+    record { fits = omega (arith, (passes (goal.at.overflow_cast-obligation c).Then-number-eq0).0, c.requires.ledger.few) }
 
 pub overflow_cast-supplier : goal.overflow_cast-supplier
-overflow_cast-supplier c = record { fits = omega (arith, (numbers c).supplier_most) }
+overflow_cast-supplier c =
+    record { fits = omega (arith, (numbers (goal.at.overflow_cast-supplier c).Then-number-eq0).supplier_most) }
 
 pub overflow_cast-quantity : goal.overflow_cast-quantity
-overflow_cast-quantity c = record { fits = omega (arith, (numbers c).quantity_within.1) }
+overflow_cast-quantity c =
+    record { fits = omega (arith, (numbers (goal.at.overflow_cast-quantity c).Then-number-eq0).quantity_within.1) }
 
 pub overflow_cast-price : goal.overflow_cast-price
-overflow_cast-price c = record { fits = omega (arith, (numbers c).price_within.1) }
+overflow_cast-price c =
+    record { fits = omega (arith, (numbers (goal.at.overflow_cast-price c).Then-number-eq0).price_within.1) }
 
-pub insert-held-requires : goal.insert-held-requires
-insert-held-requires c = offers_few _ _ _ _ _ _ (passes c.before c.if-number-eq0.true).2
+pub insert-requires : goal.insert-requires
+insert-requires c = offers_few _ _ _ _ _ _ (passes (goal.at.insert-requires c).Then-number-eq0).2
 
-pub returns : goal.returns
+-- what the call returns, by its answer number
+returned : (c : After-offer_answer-number) → let a = c.args in
+    outcome (answer (fetch_refusals (offer_refusals_in a.supplier a.quantity a.price) (fetched a.self.ledger a.obligation) (offer_refusals_for a.self a.price)))
+    (offer_done a.self a.obligation a.supplier a.quantity a.price) (done_refused a.self)
+    ≡ offer a.self a.obligation a.supplier a.quantity a.price
 unfolding offer offer_refusals_in
-returns c =
+returned c =
+    let a = c.args in
+    let done = offer_done a.self a.obligation a.supplier a.quantity a.price in
+    fetch_number (offer_refusals_in a.supplier a.quantity a.price) (offer_refusals_for a.self a.price) (λ o. done) (done_refused a.self) done refl (fetched a.self.ledger a.obligation)
+
+pub returns-then-number-eq0 : goal.returns-then-number-eq0
+returns-then-number-eq0 c =
+    let d = (goal.at.returns-then-number-eq0 c).After-offer_answer-number in
     let a = c.args in
     let l = a.self.ledger in
-    let input = offer_refusals_in a.supplier a.quantity a.price in
-    let on = offer_refusals_for a.self a.price in
-    let refusals = fetch_refusals input (fetched l a.obligation) on in
-    let done = offer_done a.self a.obligation a.supplier a.quantity a.price in
+    let zero = c.if-number-eq0.true in
     let made : ℕ → Offers → Done = λ (k : ℕ) (held : Offers).
     record { answer = k; book = with_ledger (record { obligations = l.obligations; count = l.count; offers = held; accounts = l.accounts }) a.self } in
-    let e = number c.before in
     answered (λ (r : Done). r.book)
-    (elim c.if-number-eq0.branch [ then-number-eq0 w ↦ ap₂ made w.if-number-eq0.true (w.held-is ∙ w.insert-held.ensures) ∙ done_by refusals done (done_refused a.self) (e ∙ w.if-number-eq0.true) | else-number-eq0 w ↦ ap (made _) w.held-is ∙ refused_with _ refusals done (done_refused a.self) e w.if-number-eq0.false ]
-    ∙ fetch_number input on (λ o. done) (done_refused a.self) done refl (fetched l a.obligation))
+    (ap₂ made zero c.insert.ensures ∙ done_by _ (offer_done a.self a.obligation a.supplier a.quantity a.price) (done_refused a.self) (number d ∙ zero) ∙ returned d)
+    (offer_valid _ c.requires a.obligation a.supplier a.quantity a.price)
+
+pub returns-else-number-eq0 : goal.returns-else-number-eq0
+returns-else-number-eq0 c =
+    let d = (goal.at.returns-else-number-eq0 c).After-offer_answer-number in
+    let a = c.args in
+    answered (λ (r : Done). r.book)
+    (refused_with _ _ (offer_done a.self a.obligation a.supplier a.quantity a.price) (done_refused a.self) (number d) c.if-number-eq0.false ∙ returned d)
     (offer_valid _ c.requires a.obligation a.supplier a.quantity a.price)
