@@ -5,7 +5,6 @@ ghost use Rattle.book.specs.Close.{close_refused, close, close_words};
 
 use crate::{Book, BookDay, Closed};
 use closing::DayEnd;
-use rates::InForce;
 use reprint::LastClose;
 
 impl Book {
@@ -36,7 +35,7 @@ impl Book {
         let Some(next) = self.setup.closed_days.next_after(today) else {
             return self.leaves_open(20);
         };
-        let InForce::Since(row) = self.rates.in_force(today) else {
+        let Some(row) = self.rates.in_force(today) else {
             return self.leaves_open(26);
         };
         let end = DayEnd {

@@ -12,8 +12,7 @@ use Rattle.basics.proofs.Cases.{or_false}
 use Rattle.basics.proofs.Refusals.{pass, stop, passed, all_passed, refused_ahead, passed_ahead, ahead_passed, is_printed}
 use Rattle.calendar.specs.declared.Day.{Day}
 use Rattle.amounts.specs.Amounts.{most_close_price}
-use Rattle.rates.specs.declared.InForce.{InForce}
-use Rattle.rates.specs.declared.InForce.TheVariants.{Unset}
+use Rattle.rates.specs.declared.RateRow.{RateRow}
 use Rattle.rates.specs.Force.{is_unset}
 use Rattle.ledger.specs.Lines.{fewest_words}
 use Rattle.refusals.specs.Calls.{close_refusals_in, is_never, close_refusals, again_refusals}
@@ -42,7 +41,7 @@ module _ (price words : ℕ) where
         long = ltb-false words fewest_words p5.0;
       }
 
-  module _ (next : Option Day) (force : InForce) where
+  module _ (next : Option Day) (force : Option RateRow) where
     -- refused by the input, whatever the next clearing day and the rate in force are
     pub close_refused : (k : ℕ) → answer (close_refusals_in price words) ≡ k → (k ≡ 0 → ⊥) → answer (close_refusals price words next force) ≡ k
     unfolding close_refusals
@@ -54,7 +53,7 @@ module _ (price words : ℕ) where
     unfolding close_refusals
     close_never q e = passed_ahead (close_refusals_in price words) _ close_some e ∙ stop 20 _ (ap is_never q)
 
-    pub close_unset : (d : Day) → next ≡ Some d → force ≡ Unset → answer (close_refusals_in price words) ≡ 0 → answer (close_refusals price words next force) ≡ 26
+    pub close_unset : (d : Day) → next ≡ Some d → force ≡ None → answer (close_refusals_in price words) ≡ 0 → answer (close_refusals price words next force) ≡ 26
     unfolding close_refusals
     close_unset d q f e = passed_ahead (close_refusals_in price words) _ close_some e ∙ pass 20 _ (ap is_never q) ∙ stop 26 [] (ap is_unset f)
 

@@ -10,7 +10,7 @@ use Rattle.calendar.specs.Days.{clearing}
 use Rattle.amounts.specs.Amounts.{most_quantity, most_amount, most_close_price, most_offer_price, most_rate, above_cap}
 use Rattle.offers.specs.Held.{most_offers}
 use Rattle.rates.specs.declared.Rates.{Rates}
-use Rattle.rates.specs.declared.InForce.{InForce}
+use Rattle.rates.specs.declared.RateRow.{RateRow}
 use Rattle.rates.specs.Rows.{most_rows, holds, listed_rates}
 use Rattle.rates.specs.Force.{in_force, is_unset}
 use Rattle.instructions.specs.declared.Leg.{Leg}
@@ -144,7 +144,7 @@ is_never (Some next) = false
 
 -- A12, R20 and R26, Refusals: the refusals of Close, by the next clearing day after today and by the rate in force. If
 -- there is no such day, 20 holds, and if no rate is in force, 26 holds.
-unfoldable pub close_refusals : ℕ → ℕ → Option Day → InForce → List Refusal
+unfoldable pub close_refusals : ℕ → ℕ → Option Day → Option RateRow → List Refusal
 close_refusals price words next force = close_refusals_in price words ++ refuse 20 (is_never next) ∷ refuse 26 (is_unset force) ∷ []
 
 -- ---- Again
