@@ -1,6 +1,6 @@
 -- `penalise` meets its contract.
 use Rattle.closing.specs.Stages.{penalised}
-use Rattle.closing.proofs.penalise.Goals as goal
+use Rattle.closing.proofs.Closing.penalise.Goals as goal
 
 pub report-requires : goal.report-requires
 unfolding penalised
