@@ -78,6 +78,7 @@ pub struct Closing {
 }
 
 // Writes a line after the count lines that are there.
+#[tactic(auto, using(basics::proofs::Stores::six_stores))]
 pub fn put_line(lines: &mut [u64], count: usize, line: Line)
     requires { words_in_line * (count + 1) ≤ length lines.old }
     ensures { lines.new ≡ sets lines.old (words_in_line * count) (words_of line) }
@@ -92,6 +93,7 @@ pub fn put_line(lines: &mut [u64], count: usize, line: Line)
 }
 
 // Stores the price in the obligation at age = grace. The cap needs it later.
+#[tactic(auto, unfolding(crate::specs::Stages::priced))]
 fn keep_price(o: Obligation, terms: Terms, age: ClearingDays, price: u64) -> Obligation
     requires { price ≤ most_close_price }
     ensures { result ≡ priced terms age.0 price o }
@@ -103,6 +105,7 @@ fn keep_price(o: Obligation, terms: Terms, age: ClearingDays, price: u64) -> Obl
 }
 
 // Decides what is done to an obligation of this age beside its penalty.
+#[tactic(auto, unfolding(crate::specs::Stages::measures_at))]
 fn measures_at(terms: Terms, age: ClearingDays, o: Obligation) -> Measures
     requires { ValidTerms terms }
     ensures { result ≡ measures_at terms age.0 o }
@@ -131,6 +134,7 @@ impl Closing {
     }
 
     // Reports one line.
+    #[tactic(auto, using(crate::proofs::Lines::wrote_one))]
     fn report(&mut self, line: Line, lines: &mut [u64])
         requires { Room self.old.count lines.old (one self.old.obligation line) }
         ensures { Wrote self.old lines.old self.new lines.new (one self.old.obligation line) }
@@ -140,6 +144,7 @@ impl Closing {
     }
 
     // Reports the penalty on what is outstanding before any buy-in.
+    #[tactic(auto, unfolding(crate::specs::Stages::penalised))]
     fn penalise(&mut self, cents: u64, lines: &mut [u64])
         requires { Room self.old.count lines.old (penalised self.old.number cents self.old.obligation) }
         ensures { Wrote self.old lines.old self.new lines.new (penalised self.old.number cents self.old.obligation) }
@@ -150,6 +155,7 @@ impl Closing {
     }
 
     // Reports a notice.
+    #[tactic(auto, unfolding(crate::specs::Stages::notice_at))]
     fn give_notice(&mut self, lines: &mut [u64])
         requires { Room self.old.count lines.old (notice_at true self.old.number self.old.obligation) }
         ensures { Wrote self.old lines.old self.new lines.new (notice_at true self.old.number self.old.obligation) }
@@ -160,6 +166,7 @@ impl Closing {
     }
 
     // Buys in what one offer gives, and reports it.
+    #[tactic(auto, unfolding(crate::specs::Stages::bought_from), using(crate::proofs::Lines::wrote_from, ledger::proofs::Keeping::outstanding_most))]
     fn buy_from(&mut self, from: Given, lines: &mut [u64])
         requires takes { (Takes self.old.obligation from.quantity) × (from.offer.price ≤ most_offer_price) }
         requires room { Room self.old.count lines.old (bought_from self.old.number from self.old.obligation) }
@@ -203,6 +210,7 @@ impl Closing {
     }
 
     // Compensates what is left, unless it is 0.
+    #[tactic(auto, unfolding(crate::specs::Stages::compensated), using(crate::proofs::Lines::wrote_from, crate::proofs::Lines::wrote_nothing, ledger::proofs::Keeping::outstanding_most))]
     fn compensate(&mut self, price: u64, lines: &mut [u64])
         requires sound { (Sound self.old.obligation) × (price ≤ most_close_price) }
         requires room { Room self.old.count lines.old (compensated price self.old.number self.old.obligation) }
@@ -244,6 +252,7 @@ impl Closing {
 
 impl DayEnd {
     // The penalty of an obligation at this end of a day.
+    #[tactic(auto, unfolding(crate::specs::Stages::penalty_on), using(ledger::proofs::Keeping::outstanding_most))]
     fn penalty_on(&self, o: Obligation) -> u64
         requires { (Sound o) × (ValidEnd self.now) }
         ensures { result ≡ penalty_on self.now o }
