@@ -8,7 +8,8 @@ use Rattle.calendar.specs.Days.{next_after}
 use Rattle.closing.specs.declared.DayEnd.{DayEnd}
 use Rattle.closing.specs.Lines.{written}
 use Rattle.closing.specs.Close.{close_lines, closed_ledger}
-use Rattle.rates.specs.declared.InForce.{InForce}
+use Rattle.rates.specs.declared.RateRow.{RateRow}
+use Rattle.std.specs.Prelude.{Option}
 use Rattle.rates.specs.Rows.{listed_rates}
 use Rattle.rates.specs.Force.{in_force, rate_of}
 use Rattle.reprint.specs.Kept.{kept_from}
@@ -23,7 +24,7 @@ abbrev pub next_day : Book → NextDay
 next_day b = next_after (closed_of b) (today_of b)
 
 -- F6, Rates: the row of the book that is in force on its today
-abbrev pub force_of : Book → InForce
+abbrev pub force_of : Book → Option RateRow
 force_of b = in_force (today_of b) (listed_rates b.rates)
 
 -- C1, Close: what a Close works with: the setup of the book, its today, the price of the Close and the rate in force

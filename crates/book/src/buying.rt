@@ -52,7 +52,7 @@ impl Book {
             price,
         );
         if number == 0 {
-            self.ledger.offers = self.ledger.offers.insert(Offer {
+            self.ledger.offers.insert(Offer {
                 obligation: obligation as u16,
                 supplier: supplier as u16,
                 quantity: quantity as u32,

@@ -6,7 +6,6 @@ ghost use Rattle.book.specs.Close.{close_refused, close, close_words};
 use crate::{Book, BookDay, Closed};
 use calendar::NextDay;
 use closing::DayEnd;
-use rates::InForce;
 use reprint::LastClose;
 
 impl Book {
@@ -37,7 +36,7 @@ impl Book {
         let NextDay::At(next) = self.setup.closed_days.next_after(today) else {
             return self.leaves_open(20);
         };
-        let InForce::Since(row) = self.rates.in_force(today) else {
+        let Some(row) = self.rates.in_force(today) else {
             return self.leaves_open(26);
         };
         let end = DayEnd {

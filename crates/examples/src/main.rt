@@ -145,10 +145,10 @@ fn offered(supplier: u16, quantity: u32, price: u32) -> Offer
 fn auction(output: Stdout) -> u64
     ensures { result ≡ 0 }
 {
-    let offers = Offers::none()
-        .insert(offered(1, 7, 101_000))
-        .insert(offered(2, 5, 100_500))
-        .insert(offered(3, 7, 101_000));
+    let mut offers = Offers::none();
+    offers.insert(offered(1, 7, 101_000));
+    offers.insert(offered(2, 5, 100_500));
+    offers.insert(offered(3, 7, 101_000));
     let bought = offers.buy_in(0, 10);
     let given = bought.given;
     let first = given[0];

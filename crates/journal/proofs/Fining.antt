@@ -17,8 +17,8 @@ use Rattle.calendar.specs.Days.{next_after}
 use Rattle.calendar.proofs.Next.{next_at}
 use Rattle.amounts.specs.Amounts.{penalty}
 use Rattle.rates.specs.declared.RateRow.{RateRow}
-use Rattle.rates.specs.declared.InForce.{InForce}
-use Rattle.rates.specs.declared.InForce.TheVariants.{Since, Unset}
+use Rattle.std.specs.Prelude.{Option as Perhaps}
+use Rattle.std.specs.Prelude.{Some, None}
 use Rattle.rates.specs.Force.{in_force, is_unset, rate_of}
 use Rattle.rates.proofs.Ruling.{others_set, set_later, force_entered}
 use Rattle.closing.specs.declared.Line.{Line}
@@ -48,12 +48,12 @@ module _ (o : Opening) (b : Book) (es : List Event) (g : Agrees o b es) (k : Rec
   close_penalised f d c = by (force_of b) refl
     where
       -- the price and the rate are those of the Close and of the row in force
-      cents_by : (l : Line) (row : RateRow) → force_of b ≡ Since row → penalty l.quantity c.end.price c.end.rate ≡ penalty l.quantity d.price row.rate
+      cents_by : (l : Line) (row : RateRow) → force_of b ≡ Some row → penalty l.quantity c.end.price c.end.rate ≡ penalty l.quantity d.price row.rate
       cents_by l row e = ap₂ (λ (price rate : ℕ). penalty l.quantity price rate) (sym c.price) (c.rate ∙ ap rate_of e)
 
-      by : (x : InForce) → force_of b ≡ x → PenaltiesBy o es d.price d.lines
-      by Unset e = absurd (never (sym c.is_set ∙ ap is_unset e))
-      by (Since row) e = record {
+      by : (x : Perhaps RateRow) → force_of b ≡ x → PenaltiesBy o es d.price d.lines
+      by None e = absurd (never (sym c.is_set ∙ ap is_unset e))
+      by (Some row) e = record {
         row = row;
         in_force = sym force_is ∙ e;
         cents = rw c.lines (every_map (λ l h kind. h kind ∙ cents_by l row e) (penalty_lines c.end b.ledger));

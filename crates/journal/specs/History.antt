@@ -4,7 +4,7 @@ use Rattle.std.proofs.Math.Option.{Option, none, some}
 use Rattle.basics.specs.Choice.{pick}
 use Rattle.offers.specs.declared.Offer.{Offer}
 use Rattle.rates.specs.declared.RateRow.{RateRow}
-use Rattle.rates.specs.declared.InForce.{InForce}
+use Rattle.std.specs.Prelude.{Option as Perhaps}
 use Rattle.rates.specs.Force.{in_force}
 use Rattle.instructions.specs.declared.Leg.{Leg}
 use Rattle.instructions.specs.declared.LegState.{LegState}
@@ -50,7 +50,7 @@ rates_in (e ∷ es) = (facts e).rates ++ rates_in es
 
 -- J18, Whole journals: the row in force after these events: of the accepted Rates whose starting day is not after
 -- today, the one with the greatest starting day, and the latest of those with this day
-unfoldable pub force_in : Opening → List Event → InForce
+unfoldable pub force_in : Opening → List Event → Perhaps RateRow
 force_in o es = in_force (today_in o es) (rates_in es)
 
 -- ---- Enter and Withdraw

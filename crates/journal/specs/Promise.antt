@@ -11,7 +11,7 @@ use Rattle.offers.specs.declared.Given.{Given}
 use Rattle.offers.specs.Rank.{InOrder}
 use Rattle.offers.specs.BuyIn.{given}
 use Rattle.rates.specs.declared.RateRow.{RateRow}
-use Rattle.rates.specs.declared.InForce.TheVariants.{Since}
+use Rattle.std.specs.Prelude.{Some}
 use Rattle.ledger.specs.declared.Part.{Part}
 use Rattle.ledger.specs.declared.Part.TheVariants.{BoughtIn}
 use Rattle.ledger.specs.Parts.{part_of, every_part}
@@ -159,7 +159,7 @@ EveryBuyIn o es = EachEvent (λ e earlier. is_end (facts e).ends ≡ true → Bu
 -- before it, and the cents of each penalty are those of its quantity, of the price and of the rate of this row.
 pub record PenaltiesBy (o : Opening) (earlier : List Event) (price : ℕ) (ls : List Line) : Type 0 where
   pub row : RateRow
-  pub in_force : force_in o earlier ≡ Since row
+  pub in_force : force_in o earlier ≡ Some row
   pub cents : Every (λ l. l.kind ≡ penalty_kind → l.cents ≡ penalty l.quantity price row.rate) ls
 
 -- J18, Whole journals: the penalties of every accepted Close of a journal are those of its price and of the rate in

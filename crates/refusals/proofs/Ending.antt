@@ -13,8 +13,9 @@ use Rattle.calendar.specs.declared.Day.{Day}
 use Rattle.calendar.specs.declared.NextDay.{NextDay}
 use Rattle.calendar.specs.declared.NextDay.TheVariants.{At, Never}
 use Rattle.amounts.specs.Amounts.{most_close_price}
-use Rattle.rates.specs.declared.InForce.{InForce}
-use Rattle.rates.specs.declared.InForce.TheVariants.{Unset}
+use Rattle.rates.specs.declared.RateRow.{RateRow}
+use Rattle.std.specs.Prelude.{Option}
+use Rattle.std.specs.Prelude.{None}
 use Rattle.rates.specs.Force.{is_unset}
 use Rattle.ledger.specs.Lines.{fewest_words}
 use Rattle.refusals.specs.Calls.{close_refusals_in, is_never, close_refusals, again_refusals}
@@ -43,7 +44,7 @@ module _ (price words : ℕ) where
         long = ltb-false words fewest_words p5.0;
       }
 
-  module _ (next : NextDay) (force : InForce) where
+  module _ (next : NextDay) (force : Option RateRow) where
     -- refused by the input, whatever the next clearing day and the rate in force are
     pub close_refused : (k : ℕ) → answer (close_refusals_in price words) ≡ k → (k ≡ 0 → ⊥) → answer (close_refusals price words next force) ≡ k
     unfolding close_refusals
@@ -55,7 +56,7 @@ module _ (price words : ℕ) where
     unfolding close_refusals
     close_never q e = passed_ahead (close_refusals_in price words) _ close_some e ∙ stop 20 _ (ap is_never q)
 
-    pub close_unset : (d : Day) → next ≡ At d → force ≡ Unset → answer (close_refusals_in price words) ≡ 0 → answer (close_refusals price words next force) ≡ 26
+    pub close_unset : (d : Day) → next ≡ At d → force ≡ None → answer (close_refusals_in price words) ≡ 0 → answer (close_refusals price words next force) ≡ 26
     unfolding close_refusals
     close_unset d q f e = passed_ahead (close_refusals_in price words) _ close_some e ∙ pass 20 _ (ap is_never q) ∙ stop 26 [] (ap is_unset f)
 

@@ -12,7 +12,8 @@ use Rattle.calendar.specs.Days.{clearing}
 use Rattle.amounts.specs.Amounts.{most_quantity, most_amount, most_close_price, most_offer_price, most_rate, above_cap}
 use Rattle.offers.specs.Held.{most_offers}
 use Rattle.rates.specs.declared.Rates.{Rates}
-use Rattle.rates.specs.declared.InForce.{InForce}
+use Rattle.rates.specs.declared.RateRow.{RateRow}
+use Rattle.std.specs.Prelude.{Option}
 use Rattle.rates.specs.Rows.{most_rows, holds, listed_rates}
 use Rattle.rates.specs.Force.{in_force, is_unset}
 use Rattle.instructions.specs.declared.Leg.{Leg}
@@ -146,7 +147,7 @@ is_never (At next) = false
 
 -- A12, R20 and R26, Refusals: the refusals of Close, by the next clearing day after today and by the rate in force. If
 -- there is no such day, 20 holds, and if no rate is in force, 26 holds.
-unfoldable pub close_refusals : ℕ → ℕ → NextDay → InForce → List Refusal
+unfoldable pub close_refusals : ℕ → ℕ → NextDay → Option RateRow → List Refusal
 close_refusals price words next force = close_refusals_in price words ++ refuse 20 (is_never next) ∷ refuse 26 (is_unset force) ∷ []
 
 -- ---- Again

@@ -6,7 +6,7 @@ use lib.ListN.{length}
 use Rattle.basics.specs.Refusals.{answer}
 use Rattle.calendar.specs.declared.NextDay.TheVariants.{At}
 use Rattle.closing.specs.declared.DayEnd.{DayEnd}
-use Rattle.rates.specs.declared.InForce.TheVariants.{Since}
+use Rattle.std.specs.Prelude.{Some}
 use Rattle.rates.specs.Force.{is_unset, rate_of}
 use Rattle.refusals.specs.Calls.{close_refusals_in}
 use Rattle.book.specs.Book.{today_of}
@@ -14,7 +14,7 @@ use Rattle.book.specs.Close.{next_day, force_of, day_end}
 use Rattle.book.proofs.Ended.{refused_end, done_closable, done_keepable, done_end}
 use Rattle.refusals.proofs.Ending.{close_refused, close_never, close_unset}
 use Rattle.book.proofs.Book.close.Goals as goal
-use Rattle.book.proofs.Book.close.Goals.{Else-number-ne0, In-At, In-Since}
+use Rattle.book.proofs.Book.close.Goals.{Else-number-ne0, In-At, In-Some}
 
 -- no refusal from the input holds
 passes : (c : Else-number-ne0) → let a = c.args in answer (close_refusals_in a.price (length a.lines.now)) ≡ 0
@@ -25,15 +25,15 @@ next_day_is : (c : In-At) → next_day c.args.self ≡ At c.in-At.next
 next_day_is c = sym c.next_after.ensures ∙ c.in-At.is
 
 -- a rate is in force
-in_force : (c : In-Since) → force_of c.args.self ≡ Since c.in-Since.row
-in_force c = sym c.in_force.ensures ∙ c.in-Since.is
+in_force : (c : In-Some) → force_of c.args.self ≡ Some c.in-Some.row
+in_force c = sym c.in_force.ensures ∙ c.in-Some.is
 
-is_set : (c : In-Since) → is_unset (force_of c.args.self) ≡ false
+is_set : (c : In-Some) → is_unset (force_of c.args.self) ≡ false
 is_set c = ap is_unset (in_force c)
 
 -- the end of the day that the code builds is that of the rules
-same_end : (c : In-Since) → let a = c.args in
-    ◌≡◌ {A = DayEnd} (record { setup = a.self.setup; today = today_of a.self; price = a.price; rate = c.in-Since.row.rate }) (day_end a.self a.price)
+same_end : (c : In-Some) → let a = c.args in
+    ◌≡◌ {A = DayEnd} (record { setup = a.self.setup; today = today_of a.self; price = a.price; rate = c.in-Some.row.rate }) (day_end a.self a.price)
 same_end c =
     let a = c.args in
     λ i. record { setup = a.self.setup; today = today_of a.self; price = a.price; rate = rate_of (sym (in_force c) i) }
@@ -64,12 +64,12 @@ returns-in_default-in_force c =
 pub close-count-requires : goal.close-count-requires
 close-count-requires c =
     let a = c.args in
-    done_closable a.self c.requires a.price a.lines.now (passes (goal.at.close-count-requires c).Else-number-ne0) _ (next_day_is (goal.at.close-count-requires c).In-At) (is_set (goal.at.close-count-requires c).In-Since) _ (same_end (goal.at.close-count-requires c).In-Since)
+    done_closable a.self c.requires a.price a.lines.now (passes (goal.at.close-count-requires c).Else-number-ne0) _ (next_day_is (goal.at.close-count-requires c).In-At) (is_set (goal.at.close-count-requires c).In-Some) _ (same_end (goal.at.close-count-requires c).In-Some)
 
 pub of-self-requires : goal.of-self-requires
 of-self-requires c =
-    done_keepable _ c.requires _ _ (passes (goal.at.of-self-requires c).Else-number-ne0) _ (next_day_is (goal.at.of-self-requires c).In-At) (is_set (goal.at.of-self-requires c).In-Since) _ (same_end (goal.at.of-self-requires c).In-Since) _ _ _ c.close-count.ensures
+    done_keepable _ c.requires _ _ (passes (goal.at.of-self-requires c).Else-number-ne0) _ (next_day_is (goal.at.of-self-requires c).In-At) (is_set (goal.at.of-self-requires c).In-Some) _ (same_end (goal.at.of-self-requires c).In-Some) _ _ _ c.close-count.ensures
 
 pub returns : goal.returns
 returns c =
-    done_end _ c.requires _ _ (passes (goal.at.returns c).Else-number-ne0) _ (next_day_is (goal.at.returns c).In-At) (is_set (goal.at.returns c).In-Since) _ (same_end (goal.at.returns c).In-Since) _ _ _ c.close-count.ensures _ c.of-self.ensures.value
+    done_end _ c.requires _ _ (passes (goal.at.returns c).Else-number-ne0) _ (next_day_is (goal.at.returns c).In-At) (is_set (goal.at.returns c).In-Some) _ (same_end (goal.at.returns c).In-Some) _ _ _ c.close-count.ensures _ c.of-self.ensures.value
