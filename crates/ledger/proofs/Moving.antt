@@ -13,6 +13,19 @@ use Rattle.ledger.specs.declared.Part.TheVariants.{Delivered, BoughtIn, Compensa
 use Rattle.ledger.specs.declared.Parts.{Parts}
 use Rattle.ledger.specs.Parts.{part_of, part_number, every_part, parts_by, same_part, moved, all_parts}
 
+-- ---- which part
+-- a part is the one that stands at its place
+part_at : (k : Part) → get_or every_part (part_number k) Delivered ≡ k
+part_at Delivered = refl
+part_at BoughtIn = refl
+part_at Compensated = refl
+part_at Cancelled = refl
+
+-- parts that are the same are equal
+pub same_part_lem : (j k : Part) → same_part j k ≡ true → j ≡ k
+same_part_lem j k e =
+    sym (part_at j) ∙ ap (λ (n : ℕ). get_or every_part n Delivered) (eqb-true (part_number j) (part_number k) e) ∙ part_at k
+
 -- ---- each part
 -- the part of the record that a function gives is the function's number
 pub part_by : (k : Part) (f : Part → ℕ) (left : ℕ) → part_of k (parts_by f left) ≡ f k
@@ -28,6 +41,9 @@ same_units p r h e = λ i. parts_by (λ k. h k i) (e i)
 -- a move adds to its part alone
 pub part_moved : (j k : Part) (q : ℕ) (p : Parts) → part_of j (moved k q p) ≡ pick (same_part j k) (part_of j p + q) (part_of j p)
 part_moved j k q p = part_by j (λ i. pick (same_part i k) (part_of i p + q) (part_of i p)) (p.outstanding - q)
+
+pub outstanding_moved : (k : Part) (q : ℕ) (p : Parts) → (moved k q p).outstanding ≡ p.outstanding - q
+outstanding_moved k q p = refl
 
 -- ---- their sum
 -- a part and what is outstanding are at most the sum
