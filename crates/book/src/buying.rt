@@ -30,8 +30,7 @@ fn offer_answer(
     let Fetched::Found(found) = ledger.fetch(obligation) else {
         return 13;
     };
-    let closed_days = setup.closed_days;
-    let age = closed_days.age_at(found.deal.day, today);
+    let age = setup.closed_days.age_at(found.deal.day, today);
     refusals::offer_answer_of(setup.terms, today, age, ledger.offers.count, found, price)
 }
 

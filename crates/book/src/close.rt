@@ -4,7 +4,6 @@ ghost use Rattle.book.specs.Book.{Valid};
 ghost use Rattle.book.specs.Close.{close_refused, close, close_words};
 
 use crate::{Book, BookDay, Closed};
-use calendar::NextDay;
 use closing::DayEnd;
 use reprint::LastClose;
 
@@ -33,7 +32,7 @@ impl Book {
             return self.leaves_open(number);
         }
         let today = self.day.today;
-        let NextDay::At(next) = self.setup.closed_days.next_after(today) else {
+        let Some(next) = self.setup.closed_days.next_after(today) else {
             return self.leaves_open(20);
         };
         let Some(row) = self.rates.in_force(today) else {
