@@ -13,7 +13,7 @@ use netting::LAST_MEMBER;
 fn is_late(today: Day, member: u64, o: Obligation) -> bool
     ensures { result ≡ is_late today member o }
 {
-    o.deal.seller as u64 == member && (o.deal.day.0 < today.0 && 0 < o.parts.outstanding)
+    o.deal.seller as u64 == member && (o.deal.day < today && 0 < o.parts.outstanding)
 }
 
 impl Book {

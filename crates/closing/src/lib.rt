@@ -98,7 +98,7 @@ fn keep_price(o: Obligation, terms: Terms, age: ClearingDays, price: u64) -> Obl
     requires { price ≤ most_close_price }
     ensures { result ≡ priced terms age.0 price o }
 {
-    if age.0 == terms.grace.0 {
+    if age == terms.grace {
         return o.keep_price(price);
     }
     o
@@ -112,9 +112,9 @@ fn measures_at(terms: Terms, age: ClearingDays, o: Obligation) -> Measures
 {
     let last = o.last_of(terms);
     Measures {
-        notice: age.0 == terms.notice.0,
+        notice: age == terms.notice,
         buy_in: ledger::buys_in(terms.grace, last, age),
-        compensation: age.0 == last.0,
+        compensation: age == last,
     }
 }
 

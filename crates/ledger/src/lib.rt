@@ -171,7 +171,7 @@ const NO_OBLIGATION: Obligation = Obligation {
 pub fn buys_in(grace: ClearingDays, last: ClearingDays, age: ClearingDays) -> bool
     ensures { result ≡ in_buy_in grace.0 last.0 age.0 }
 {
-    grace.0 < age.0 && age.0 <= last.0
+    grace < age && age <= last
 }
 
 impl Parts {
@@ -270,7 +270,7 @@ impl Obligation {
     pub fn is_due(self, today: Day) -> bool
         ensures { result ≡ is_due today self }
     {
-        self.deal.day.0 <= today.0 && 0 < self.parts.outstanding
+        self.deal.day <= today && 0 < self.parts.outstanding
     }
 
     // Keeps the price of the Close at age = grace.
