@@ -10,6 +10,7 @@ use ledger::{Fetched, NO_PARTS, Obligation};
 use netting::LAST_MEMBER;
 
 // Whether a member sells an obligation that is late: due before today, with something outstanding.
+#[tactic(auto, unfolding(crate::specs::Showing::is_late))]
 fn is_late(today: Day, member: u64, o: Obligation) -> bool
     ensures { result ≡ is_late today member o }
 {
