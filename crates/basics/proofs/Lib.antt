@@ -1,4 +1,5 @@
 -- Laws that every chapter of the rules uses. Refusals says what an answer number means.
+pub mod Arrays
 pub mod Cases
 pub mod Counts
 pub mod Everywhere

@@ -13,12 +13,11 @@ impl Book {
         ensures lines_after { lines.new ≡ again_words self lines.old }
         ensures valid { Valid result.book }
     {
-        let last = self.last;
         let number = refusals::again_answer(self.day.has_closed, lines.len());
         let mut count = 0;
         if number == 0 {
-            last.write(lines);
-            count = last.count;
+            self.last.write(lines);
+            count = self.last.count;
         }
         Closed {
             answer: number,

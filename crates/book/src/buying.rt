@@ -30,8 +30,7 @@ fn offer_answer(
     let Fetched::Found(found) = ledger.fetch(obligation) else {
         return 13;
     };
-    let closed_days = setup.closed_days;
-    let age = closed_days.age_at(found.deal.day, today);
+    let age = setup.closed_days.age_at(found.deal.day, today);
     refusals::offer_answer_of(setup.terms, today, age, ledger.offers.count, found, price)
 }
 
@@ -52,7 +51,7 @@ impl Book {
             price,
         );
         if number == 0 {
-            self.ledger.offers = self.ledger.offers.insert(Offer {
+            self.ledger.offers.insert(Offer {
                 obligation: obligation as u16,
                 supplier: supplier as u16,
                 quantity: quantity as u32,

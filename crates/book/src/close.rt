@@ -4,9 +4,7 @@ ghost use Rattle.book.specs.Book.{Valid};
 ghost use Rattle.book.specs.Close.{close_refused, close, close_words};
 
 use crate::{Book, BookDay, Closed};
-use calendar::NextDay;
 use closing::DayEnd;
-use rates::InForce;
 use reprint::LastClose;
 
 impl Book {
@@ -34,10 +32,10 @@ impl Book {
             return self.leaves_open(number);
         }
         let today = self.day.today;
-        let NextDay::At(next) = self.setup.closed_days.next_after(today) else {
+        let Some(next) = self.setup.closed_days.next_after(today) else {
             return self.leaves_open(20);
         };
-        let InForce::Since(row) = self.rates.in_force(today) else {
+        let Some(row) = self.rates.in_force(today) else {
             return self.leaves_open(26);
         };
         let end = DayEnd {

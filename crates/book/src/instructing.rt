@@ -132,9 +132,12 @@ impl Book {
             amount: amount,
             day: day,
         };
-        let closed_days = self.setup.closed_days;
-        let number =
-            refusals::enter_answer(closed_days, self.day.today, self.legs.count, asked);
+        let number = refusals::enter_answer(
+            &self.setup.closed_days,
+            self.day.today,
+            self.legs.count,
+            asked,
+        );
         let entry = self.legs.entry(number, asked);
         let legs_before = self.legs.count as u64;
         let obligations_before = self.ledger.count as u64;

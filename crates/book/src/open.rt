@@ -77,7 +77,7 @@ impl Book {
             };
         }
         let days = ClosedDays::of(closed);
-        if refusals::is_bad_first(days, first) {
+        if refusals::is_bad_first(&days, first) {
             return Opened {
                 answer: 11,
                 book: Book::refused(),

@@ -14,19 +14,17 @@ impl Book {
         ensures value { result ≡ rated self start rate }
         ensures valid { Valid result.book }
     {
-        let held = self.rates;
-        let number = refusals::rate_answer(self.day.today, held, start, rate);
+        let number = refusals::rate_answer(self.day.today, self.rates, start, rate);
         if number != 0 {
             return Done {
                 answer: number,
                 book: self,
             };
         }
-        let rates = held.enter(RateRow {
+        self.rates.enter(RateRow {
             start: start.stored(),
             rate: rate as u16,
         });
-        self.rates = rates;
         Done {
             answer: 0,
             book: self,

@@ -30,23 +30,23 @@ pub fn are_bad_parties(member: u64, other: u64, side: u64) -> bool
 }
 
 // Whether a first day is refused: it is above the last day, or it is not a clearing day.
-pub fn is_bad_first(closed_days: ClosedDays, first: Day) -> bool
-    ensures { result ≡ bad_first closed_days first }
+pub fn is_bad_first(closed_days: &ClosedDays, first: Day) -> bool
+    ensures { result ≡ bad_first closed_days.now first }
 {
     LAST_DAY < first.0 || !closed_days.is_clearing(first)
 }
 
 // Whether a settlement day is refused: it is not a clearing day, is before today or is above the latest day.
-fn is_bad_day(closed_days: ClosedDays, today: Day, day: Day) -> bool
-    ensures { result ≡ bad_day closed_days today day }
+fn is_bad_day(closed_days: &ClosedDays, today: Day, day: Day) -> bool
+    ensures { result ≡ bad_day closed_days.now today day }
 {
     !closed_days.is_clearing(day) || (day.0 < today.0 || LATEST_DAY < day.0)
 }
 
 // The answer number of an instruction, in a book with these closed days, this day and this many legs.
 #[tactic(auto, unfolding(crate::specs::Calls::enter_refusals), using(basics::proofs::Refusals::pass, basics::proofs::Refusals::stop, basics::proofs::Refusals::all_passed))]
-pub fn enter_answer(closed_days: ClosedDays, today: Day, legs: usize, asked: Instruction) -> u64
-    ensures { result ≡ answer (enter_refusals closed_days today legs (leg_of asked)) }
+pub fn enter_answer(closed_days: &ClosedDays, today: Day, legs: usize, asked: Instruction) -> u64
+    ensures { result ≡ answer (enter_refusals closed_days.now today legs (leg_of asked)) }
 {
     if are_bad_parties(asked.member, asked.other, asked.side) {
         return 1;

@@ -44,8 +44,7 @@ with_match-requires c =
 
 pub enter-requires : goal.enter-requires
 enter-requires c =
-    let before = (goal.at.enter-requires c).After-enter_answer-number in
-    (
+    let before = (goal.at.enter-requires c).After-enter_answer-number in (
       subst⁻¹ (λ (e : Entry). Enterable e c.args.self.legs) c.entry-entry.ensures (entry_enterable _ c.requires (asked before) _ (fine before)),
       omega (arith, c.requires.ledger.few),
     )

@@ -55,9 +55,9 @@ overflow_cast-quantity c = record { fits = omega (arith, (numbers (goal.at.overf
 pub overflow_cast-price : goal.overflow_cast-price
 overflow_cast-price c = record { fits = omega (arith, (numbers (goal.at.overflow_cast-price c).Then-number-eq0).price_within.1) }
 
-pub insert-self-requires : goal.insert-self-requires
-insert-self-requires c =
-    let t = (goal.at.insert-self-requires c).Then-number-eq0 in
+pub insert-requires : goal.insert-requires
+insert-requires c =
+    let t = (goal.at.insert-requires c).Then-number-eq0 in
     offers_few _ _ _ _ _ _ (passes t.before t.if-number-eq0.true).2
 
 -- what an Offer returns, if it is the outcome by its refusals
@@ -80,7 +80,7 @@ returns-then-number-eq0 c =
     let made : ℕ → Offers → Done = λ (k : ℕ) (held : Offers).
     record { answer = k; book = with_ledger (record { obligations = l.obligations; count = l.count; offers = held; accounts = l.accounts }) c.args.self } in
     let n = (goal.at.returns-then-number-eq0 c).After-offer_answer-number in
-    returned n _ (ap₂ made zero c.insert-self.ensures ∙ done_by _ _ (done_refused c.args.self) (number n ∙ zero))
+    returned n _ (ap₂ made zero c.insert.ensures ∙ done_by _ _ (done_refused c.args.self) (number n ∙ zero))
 
 pub returns-else-number-eq0 : goal.returns-else-number-eq0
 returns-else-number-eq0 c =
