@@ -21,7 +21,8 @@ pub struct Offer {
     pub price: u32,
 }
 
-// The offers of today, in the order of the auction. They are the first count rows.
+// The offers of today, in the order of the auction. They are the first count rows. It is a plain list with a count,
+// since the definitions build it and the theorem compares it, and since a heap could run out, which no refusal names.
 #[derive(Clone, Copy)]
 pub struct Offers {
     pub rows: [Offer; MOST_OFFERS],
@@ -35,7 +36,8 @@ pub struct Given {
     pub quantity: u32,
 }
 
-// What the offers for one obligation give, in the order of the auction. It is in the first count places.
+// What the offers for one obligation give, in the order of the auction. It is in the first count places, for the same
+// reason as the offers of today.
 #[derive(Clone, Copy)]
 pub struct BuyIn {
     pub given: [Given; MOST_OFFERS],

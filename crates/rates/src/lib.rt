@@ -18,7 +18,10 @@ pub struct RateRow {
     pub rate: u16,
 }
 
-// The rates of a book. They are the first count rows, in the order in which their starting days were first entered.
+// The rates of a book. They are the first count rows, in the order in which their starting days were first entered. It
+// is a plain list with a count, since the definitions build it and the theorem compares it, and since a heap could run
+// out, which no refusal names. For the same reason it has no ghost field that keeps the count below 17: each definition
+// in specs/ that builds a book, as `no_rates` and `with_rate` do, would have to build that field and its proof too.
 #[derive(Clone, Copy)]
 pub struct Rates {
     pub rows: [RateRow; MOST_ROWS],

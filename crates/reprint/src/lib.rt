@@ -21,7 +21,8 @@ pub struct KeptLine {
     pub obligation: u16,
 }
 
-// The lines of the latest Close. They are the first count rows.
+// The lines of the latest Close. They are the first count rows. It is a plain list with a count, since the definitions
+// build it and the theorem compares it, and since a heap could run out, which no refusal names.
 #[derive(Clone, Copy)]
 pub struct LastClose {
     pub rows: [KeptLine; MOST_LINES],
@@ -38,7 +39,8 @@ const NO_LINE: KeptLine = KeptLine {
     obligation: 0,
 };
 
-// Reads the line with a number from a list of words.
+// Reads the line with a number from a list of words. It is no `From`, since it requires that the words fit the narrow
+// fields of the line.
 fn line_at(lines: &[u64], i: usize) -> KeptLine
     requires { (words_in_line * (i + 1) ≤ length lines.now) × (SoundLine (line_at lines.now i)) }
     ensures { result ≡ kept_line (line_at lines.now i) }
