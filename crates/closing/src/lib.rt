@@ -27,7 +27,8 @@ pub struct DayEnd {
     pub rate: u64,
 }
 
-// What a Close does to an obligation beside its penalty.
+// What a Close does to an obligation beside its penalty. These are flags and no steps, because the rules decide all three
+// before the first step changes the obligation (`measures_at` in specs/).
 #[derive(Clone, Copy)]
 pub struct Measures {
     pub notice: bool,
@@ -69,7 +70,8 @@ pub struct Line {
     pub price: u64,
 }
 
-// An obligation in the course of its Close, with its number, and how many lines there are so far.
+// An obligation in the course of its Close, with its number, and how many lines there are so far. The list of the lines is
+// lent to each step and is no field, because each contract would then also have to say that the field keeps its list.
 #[derive(Clone, Copy)]
 pub struct Closing {
     pub number: u64,
@@ -77,7 +79,8 @@ pub struct Closing {
     pub count: usize,
 }
 
-// Writes a line after the count lines that are there.
+// Writes a line after the count lines that are there. One copy of all six words was tried, and its proof did not close,
+// because no law joins the library's write of a part of a list with `sets`.
 #[tactic(auto, using(basics::proofs::Stores::six_stores))]
 pub fn put_line(lines: &mut [u64], count: usize, line: Line)
     requires { words_in_line * (count + 1) ≤ length lines.old }

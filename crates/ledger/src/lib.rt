@@ -125,7 +125,8 @@ pub struct Change {
     pub obligation: Obligation,
 }
 
-// The obligations, numbered from 0 (the first count of them), the offers of today and the accounts.
+// The obligations, numbered from 0 (the first count of them), the offers of today and the accounts. The obligations are an
+// array and a count, because the definitions build the ledger and compare it, and a heap could run out.
 #[derive(Clone, Copy)]
 pub struct Ledger {
     pub obligations: [Obligation; MOST_OBLIGATIONS],
