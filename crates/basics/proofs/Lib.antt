@@ -5,6 +5,7 @@ pub mod Counts
 pub mod Everywhere
 pub mod Fronts
 pub mod Places
+pub mod Positions
 pub mod Refusals
 pub mod Stores
 pub mod Sums

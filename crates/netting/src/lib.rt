@@ -43,7 +43,6 @@ pub fn owed_by(account: i64) -> u64
 
 // Moves cents from the account of one member to that of another. It reads the creditor's account after it has stored
 // the debit, so a transfer from a member to itself would change nothing.
-#[tactic(auto, unfolding(crate::specs::Accounts::transferred, crate::specs::Accounts::credited, crate::specs::Accounts::debited))]
 pub fn transfer(accounts: &mut [i64], debtor: usize, creditor: usize, cents: u64)
     requires { (Transferable debtor creditor cents accounts.old) × (length accounts.old ≡ member_count) }
     ensures { accounts.new ≡ transferred debtor creditor cents accounts.old }
