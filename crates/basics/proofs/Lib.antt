@@ -4,6 +4,7 @@ pub mod Counts
 pub mod Everywhere
 pub mod Fronts
 pub mod Places
+pub mod Reasons
 pub mod Refusals
 pub mod Stores
 pub mod Sums

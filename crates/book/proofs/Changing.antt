@@ -9,20 +9,19 @@ use borrow.Author.Tests.{ne_eqb}
 use Rattle.basics.specs.Refusals.{Refusal}
 use Rattle.basics.proofs.Refusals.{rising_from}
 use Rattle.ledger.specs.declared.Obligation.{Obligation}
-use Rattle.ledger.specs.declared.Change.{Change}
 use Rattle.ledger.specs.declared.Ledger.{Ledger}
-use Rattle.ledger.specs.Ledger.{most_obligations, fetched, with_obligation, refused_change, changed}
+use Rattle.ledger.specs.Ledger.{most_obligations, fetched, with_obligation, Effect, refused_change, changed}
 use Rattle.refusals.specs.Calls.{fetch_outcome}
 use Rattle.refusals.proofs.Named.{fetch_case, fetch_case₂}
 
 module _ (input : List Refusal) (on : Obligation → List Refusal) (shown : Obligation → ℕ) (next : Obligation → Obligation)
     (p : rising_from 0 input ≡ true) (l : Ledger) (n : ℕ) where
   -- an obligation on which the call is done
-  abbrev done : Obligation → Change
+  abbrev done : Obligation → Effect
   done o = record { answer = 0; result = shown o; obligation = next o }
 
   -- what the call comes to
-  abbrev change : Change
+  abbrev change : Effect
   change = fetch_outcome input (fetched l n) on done refused_change
 
   -- `told` makes what is returned from the answer number, the result and the ledger
@@ -34,7 +33,7 @@ module _ (input : List Refusal) (on : Obligation → List Refusal) (shown : Obli
       (λ o. told 0 (shown o) (with_obligation n (next o) l)) (λ k. told k 0 l) l n p
       (λ k z. rw (ne_eqb k 0 z)) (λ h i j. refl)
 
-  module _ (c : Change) (is : c ≡ change) where
+  module _ (c : Effect) (is : c ≡ change) where
     -- if the call is done, the obligation has a place
     pub change_placed : l.count ≤ most_obligations → c.answer ≡ 0 → n < most_obligations
     change_placed few =
@@ -46,4 +45,4 @@ module _ (input : List Refusal) (on : Obligation → List Refusal) (shown : Obli
         told c.answer c.result after
         ≡ fetch_outcome input (fetched l n) on (λ o. told 0 (shown o) (with_obligation n (next o) l)) (λ k. told k 0 l)
     change_told told made =
-        ap (told c.answer c.result) made ∙ ap (λ (x : Change). told x.answer x.result (changed n x l)) is ∙ told_by told
+        ap (told c.answer c.result) made ∙ ap (λ (x : Effect). told x.answer x.result (changed n x l)) is ∙ told_by told

@@ -5,9 +5,9 @@ ghost use Rattle.book.specs.Book.{Valid};
 ghost use Rattle.book.specs.Showing.{status, account, is_late, LooksAt, Looks};
 
 use crate::{Balance, Book, Looked, Shown};
+use basics::Reason;
 use calendar::Day;
 use ledger::{Fetched, NO_PARTS, Obligation};
-use netting::LAST_MEMBER;
 
 // Whether a member sells an obligation that is late: due before today, with something outstanding.
 fn is_late(today: Day, member: u64, o: Obligation) -> bool
@@ -23,20 +23,18 @@ impl Book {
         ensures value { result ≡ status self obligation }
         ensures valid { Valid result.book }
     {
-        let ledger = self.ledger;
-        let Fetched::Found(found) = ledger.fetch(obligation) else {
+        let Fetched::Found(found) = self.ledger.fetch(obligation) else {
             return Shown {
-                answer: 13,
+                answer: u64::from(Reason::NotFound),
                 quantity: 0,
                 parts: NO_PARTS,
                 book: self,
             };
         };
-        let parts = found.parts;
         Shown {
             answer: 0,
             quantity: found.deal.quantity as u64,
-            parts: parts,
+            parts: found.parts,
             book: self,
         }
     }
@@ -47,45 +45,35 @@ impl Book {
         ensures value { result ≡ account self member }
         ensures valid { Valid result.book }
     {
-        if LAST_MEMBER < member {
+        if let Err(reason) = refusals::member_in(member) {
             return Balance {
-                answer: 1,
+                answer: u64::from(reason),
                 cents: 0,
                 book: self,
             };
         }
-        let ledger = self.ledger;
-        let accounts = ledger.accounts;
-        let i = member as usize;
-        let cents = accounts[i];
         Balance {
             answer: 0,
-            cents: cents,
+            cents: self.ledger.accounts[member as usize],
             book: self,
         }
     }
 
     // Looks for a late obligation that a member sells; the search stops at the first it meets.
-    fn late_of(self, member: u64) -> u64
-        requires { self.ledger.count ≤ most_obligations }
-        ensures { LooksAt self member result }
+    fn late_of(&self, member: u64) -> u64
+        requires { self.now.ledger.count ≤ most_obligations }
+        ensures { LooksAt self.now member result }
     {
-        let ledger = self.ledger;
-        let today = self.day.today;
-        let obligations = ledger.obligations;
-        let count = ledger.count;
         let mut i = 0;
-        let found = loop {
-            if count <= i {
+        loop {
+            if self.ledger.count <= i {
                 break 0;
             }
-            let o = obligations[i];
-            if is_late(today, member, o) {
+            if is_late(self.day.today, member, self.ledger.obligations[i]) {
                 break i as u64 + 1;
             }
             i += 1;
-        };
-        found
+        }
     }
 
     // Looks for a late obligation that a member sells.
@@ -94,9 +82,9 @@ impl Book {
         ensures looks { Looks self member result }
         ensures valid { Valid result.book }
     {
-        if LAST_MEMBER < member {
+        if let Err(reason) = refusals::member_in(member) {
             return Looked {
-                answer: 1,
+                answer: u64::from(reason),
                 obligation: 0,
                 book: self,
             };
@@ -104,7 +92,7 @@ impl Book {
         let obligation = self.late_of(member);
         Looked {
             answer: 0,
-            obligation: obligation,
+            obligation,
             book: self,
         }
     }

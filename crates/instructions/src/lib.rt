@@ -51,10 +51,9 @@ pub struct Legs {
     pub count: usize,
 }
 
-// What an Enter comes to: it is refused, its leg finds no match and waits, or its leg matches the leg with a number.
+// What an accepted Enter comes to: its leg finds no match and waits, or it matches the leg with a number.
 #[derive(Clone, Copy)]
 pub enum Entry {
-    Refused,
     Alone(Leg),
     Matching(Leg, usize),
 }
@@ -198,14 +197,11 @@ impl Legs {
         self.listed().iter().position(|leg| leg.fits_new(new))
     }
 
-    // What an Enter with this answer number comes to.
-    pub fn entry(&self, number: u64, asked: Instruction) -> Entry
-        requires { (self.now.count ≤ most_legs) × (number ≡ 0 → Fitting asked) }
-        ensures { result ≡ entry_of self.now number asked }
+    // What an accepted Enter comes to.
+    pub fn entry(&self, asked: Instruction) -> Entry
+        requires { (self.now.count ≤ most_legs) × (Fitting asked) }
+        ensures { result ≡ entry_of self.now asked }
     {
-        if number != 0 {
-            return Entry::Refused;
-        }
         let new = asked.leg();
         match self.lowest_fit(new) {
             Some(k) => Entry::Matching(new, k),
@@ -219,7 +215,6 @@ impl Legs {
         ensures { self.new ≡ with_entry entry obligation self.old }
     {
         match entry {
-            Entry::Refused => {}
             Entry::Alone(new) => self.push(new),
             Entry::Matching(new, k) => {
                 let state = LegState::Matched(obligation as u8);
@@ -231,14 +226,12 @@ impl Legs {
 }
 
 impl Entry {
-    // The number of the new leg, where there were so many legs before; 0 if the Enter is refused.
+    // The number of the new leg, where there were so many legs before.
     pub fn leg_number(self, legs: u64) -> u64
         ensures { result ≡ leg_number self legs }
     {
         match self {
-            Entry::Refused => 0,
-            Entry::Alone(_) => legs,
-            Entry::Matching(_, _) => legs,
+            Entry::Alone(_) | Entry::Matching(_, _) => legs,
         }
     }
 
@@ -248,7 +241,6 @@ impl Entry {
         ensures { result ≡ obligation_number self obligations }
     {
         match self {
-            Entry::Refused => 0,
             Entry::Alone(_) => 0,
             Entry::Matching(_, _) => obligations + 1,
         }

@@ -3,14 +3,16 @@
 #![tactic(auto)]
 
 ghost use Rattle.std.specs.Prelude.{◌≡◌, ◌+◌, ◌≤◌, ◌<◌};
+ghost use Rattle.basics.specs.Reasons.{answer_of};
 ghost use Rattle.amounts.specs.Amounts.{most_quantity, most_close_price};
 ghost use Rattle.ledger.specs.Setup.{ValidTerms};
 ghost use Rattle.ledger.specs.Parts.{moved, all_parts};
 ghost use Rattle.ledger.specs.Obligations.{new_obligation, settled, cash_of, moving, Sound, Takes};
 ghost use Rattle.ledger.specs.Obligations.{last_of, in_buy_in, is_due, sides_of, with_grace_price};
 ghost use Rattle.ledger.specs.Obligations.{is_party, has_wished, with_wish, both_wish, wishing, moved_by_wish};
-ghost use Rattle.ledger.specs.Ledger.{most_obligations, new_ledger, fetched, refused_change, changed, cleared_ledger};
+ghost use Rattle.ledger.specs.Ledger.{most_obligations, new_ledger, fetched, effect_of, changed, cleared_ledger};
 
+use basics::Reason;
 use calendar::{ClearingDays, ClosedDays, Day};
 use netting::MEMBER_COUNT;
 use offers::Offers;
@@ -116,11 +118,9 @@ pub enum Fetched {
     Absent,
 }
 
-// What a call comes to on the obligation that it names: its answer number, its result, and the obligation as it is
-// then. A refused call has the result 0, and its obligation is not used.
+// What a call that is done comes to on the obligation that it names: its result, and the obligation as it is then.
 #[derive(Clone, Copy)]
 pub struct Change {
-    pub answer: u64,
     pub result: u64,
     pub obligation: Obligation,
 }
@@ -352,19 +352,6 @@ impl Obligation {
     }
 }
 
-impl Change {
-    // What a call comes to that is refused by a number.
-    pub fn refused(number: u64) -> Change
-        ensures { result ≡ refused_change number }
-    {
-        Change {
-            answer: number,
-            result: 0,
-            obligation: NO_OBLIGATION,
-        }
-    }
-}
-
 impl Ledger {
     // The ledger of a fresh book: it has no obligations and no offers, and all accounts are zero.
     pub fn new() -> Ledger
@@ -380,40 +367,30 @@ impl Ledger {
 
     // Finds the obligation with a number.
     #[tactic(auto, unfolding(crate::specs::Ledger::fetched))]
-    pub fn fetch(self, number: u64) -> Fetched
-        requires { self.count ≤ most_obligations }
-        ensures { result ≡ fetched self number }
+    pub fn fetch(&self, number: u64) -> Fetched
+        requires { self.now.count ≤ most_obligations }
+        ensures { result ≡ fetched self.now number }
     {
-        let count = self.count;
-        let rows = self.obligations;
-        if number < count as u64 {
-            let i = number as usize;
-            return Fetched::Found(rows[i]);
+        if number < self.count as u64 {
+            return Fetched::Found(self.obligations[number as usize]);
         }
         Fetched::Absent
     }
 
     // Puts the obligation that a call has changed under its number. A refused call changes nothing.
-    pub fn change(mut self, number: u64, change: Change) -> Ledger
-        requires { change.answer ≡ 0 → number < most_obligations }
-        ensures { result ≡ changed number change self }
+    pub fn change(&mut self, number: u64, change: &Result<Change, Reason>)
+        requires { answer_of change.now ≡ 0 → number < most_obligations }
+        ensures { self.new ≡ changed number (effect_of change.now) self.old }
     {
-        let mut rows = self.obligations;
-        if change.answer == 0 {
-            let i = number as usize;
-            let next = change.obligation;
-            rows[i] = next;
+        if let Ok(done) = change {
+            self.obligations[number as usize] = done.obligation;
         }
-        self.obligations = rows;
-        self
     }
 
     // Sets all accounts to zero.
-    pub fn clear(mut self) -> Ledger
-        ensures { result ≡ cleared_ledger self }
+    pub fn clear(&mut self)
+        ensures { self.new ≡ cleared_ledger self.old }
     {
-        let zeros = [0i64; MEMBER_COUNT];
-        self.accounts = zeros;
-        self
+        self.accounts = [0i64; MEMBER_COUNT];
     }
 }
