@@ -47,13 +47,12 @@ impl Book {
         if let Err(reason) = self.may_offer(obligation, supplier, quantity, price) {
             return Done::refused(self, reason);
         }
-        let held = self.ledger.offers.insert(Offer {
+        self.ledger.offers = self.ledger.offers.insert(Offer {
             obligation: obligation as u16,
             supplier: supplier as u16,
             quantity: quantity as u32,
             price: price as u32,
         });
-        self.ledger.offers = held;
         Done {
             answer: 0,
             book: self,

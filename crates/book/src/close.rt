@@ -35,9 +35,8 @@ impl Book {
             price,
             rate: row.rate as u64,
         };
-        let done = closing::close(self.ledger, end, lines);
-        self.ledger = done.ledger;
-        self.last = LastClose::of(lines, done.count);
+        let count = closing::close(&mut self.ledger, &end, lines);
+        self.last = LastClose::of(lines, count);
         self.day = BookDay {
             today: next,
             close_since: true,
@@ -45,7 +44,7 @@ impl Book {
         };
         Closed {
             answer: 0,
-            count: done.count,
+            count,
             book: self,
         }
     }
