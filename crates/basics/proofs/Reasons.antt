@@ -1,6 +1,7 @@
 -- The numbers of the reasons: none of them is 0, so a refused call is told from one that is done by its answer number.
 use Prim.Native.Nat.{ℕ}
-use Rattle.std.specs.Prelude.{Result, Ok, Err}
+use Rattle.std.specs.Prelude.{Result, Ok, Err, IsErrAnd}
+use Rattle.std.proofs.lemmas.Result.{err_from_is_err_and}
 use mathlib.Core.Path.{◌≡◌, refl, sym, ap, ◌∙◌}
 use mathlib.Core.Bool.{false}
 use mathlib.Core.List.{List}
@@ -37,6 +38,10 @@ number_eqb NoRate = refl
 
 pub number_some : (r : Reason) → number_of r ≡ 0 → ⊥
 number_some r = eqb-false (number_of r) 0 (number_eqb r)
+
+-- a function that a `?` leaves gives the reason of the call that failed
+pub left_by : {T : Type 0} {t : Result T Reason} {r : Reason} → IsErrAnd t (λ e. e ≡ r) → t ≡ Err r
+left_by {t} p = let q = err_from_is_err_and t p in q.1 ∙ ap Err q.2
 
 -- what tests the refusals of a list
 module _ {T : Type 0} {t : Result T Reason} {n : ℕ} (e : answer_of t ≡ n) where

@@ -120,9 +120,7 @@ impl Book {
         };
         let legs = self.legs.count;
         let obligations = self.ledger.count as u64;
-        if let Err(reason) =
-            refusals::enter(&self.setup.closed_days, self.day.today, legs, asked)
-        {
+        if let Err(reason) = refusals::enter(&self.setup.closed_days, self.day.today, legs, asked) {
             return Entered {
                 answer: u64::from(reason),
                 leg: 0,

@@ -15,8 +15,12 @@ impl Book {
         ensures valid { Valid result.book }
         ensures collected_stays { collected.exit.now ≡ collected.entry.now }
     {
-        let number =
-            payments::settle_month(self.ledger.accounts, self.day.close_since, collected, payouts);
+        let number = payments::settle_month(
+            self.ledger.accounts,
+            self.day.close_since,
+            collected,
+            payouts,
+        );
         if number == 0 {
             self.ledger.clear();
             self.day.close_since = false;
