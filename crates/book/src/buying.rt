@@ -47,7 +47,7 @@ impl Book {
         if let Err(reason) = self.may_offer(obligation, supplier, quantity, price) {
             return Done::refused(self, reason);
         }
-        self.ledger.offers = self.ledger.offers.insert(Offer {
+        self.ledger.offers.insert(Offer {
             obligation: obligation as u16,
             supplier: supplier as u16,
             quantity: quantity as u32,

@@ -5,9 +5,7 @@ ghost use Rattle.book.specs.Close.{close, close_words};
 
 use crate::{Book, BookDay, Closed};
 use basics::Reason;
-use calendar::NextDay;
 use closing::DayEnd;
-use rates::InForce;
 use reprint::LastClose;
 
 impl Book {
@@ -23,10 +21,10 @@ impl Book {
             return Closed::refused(self, reason);
         }
         let today = self.day.today;
-        let NextDay::At(next) = self.setup.closed_days.next_after(today) else {
+        let Some(next) = self.setup.closed_days.next_after(today) else {
             return Closed::refused(self, Reason::NoNextDay);
         };
-        let InForce::Since(row) = self.rates.in_force(today) else {
+        let Some(row) = self.rates.in_force(today) else {
             return Closed::refused(self, Reason::NoRate);
         };
         let end = DayEnd {

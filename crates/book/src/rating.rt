@@ -17,11 +17,10 @@ impl Book {
         if let Err(reason) = refusals::rate(self.day.today, &self.rates, start, rate) {
             return Done::refused(self, reason);
         }
-        let rates = self.rates.enter(RateRow {
+        self.rates.enter(RateRow {
             start: start.stored(),
             rate: rate as u16,
         });
-        self.rates = rates;
         Done {
             answer: 0,
             book: self,

@@ -2,7 +2,7 @@
 // differs is proved, and the output shows it.
 #![tactic(auto)]
 
-use calendar::{ClearingDays, ClosedDays, Day, NextDay};
+use calendar::{ClearingDays, ClosedDays, Day};
 use offers::{Offer, Offers};
 use std::io::Stdout;
 
@@ -108,13 +108,12 @@ fn months(output: Stdout) -> u64
 }
 
 // The number of the n-th clearing day after day 2, or 0 where there is none.
-fn nth_after_2(closed: ClosedDays, n: u64) -> u64
-    ensures { result ≡ day_or_none (nth_after (listed_days closed) (day 2) (clearing_days n)) }
+fn nth_after_2(closed: &ClosedDays, n: u64) -> u64
+    ensures { result ≡ day_or_none (nth_after (listed_days closed.now) (day 2) (clearing_days n)) }
 {
-    match closed.nth_after(Day(2), ClearingDays(n)) {
-        NextDay::At(day) => day.0,
-        NextDay::Never => 0,
-    }
+    closed
+        .nth_after(Day(2), ClearingDays(n))
+        .map_or(0, |day| day.0)
 }
 
 // Example 9: clearing days with no closed day, and with day 44 closed.
@@ -124,9 +123,9 @@ fn clearing_days(output: Stdout) -> u64
     let list = [44u64; 1];
     let all_open = ClosedDays::of(&list[..0]);
     let one_closed = ClosedDays::of(&list);
-    compared(output, 9, nth_after_2(all_open, 30), 44)
-        + compared(output, 9, nth_after_2(all_open, 35), 51)
-        + compared(output, 9, nth_after_2(one_closed, 30), 45)
+    compared(output, 9, nth_after_2(&all_open, 30), 44)
+        + compared(output, 9, nth_after_2(&all_open, 35), 51)
+        + compared(output, 9, nth_after_2(&one_closed, 30), 45)
 }
 
 // An offer for obligation 0.
@@ -145,10 +144,10 @@ fn offered(supplier: u16, quantity: u32, price: u32) -> Offer
 fn auction(output: Stdout) -> u64
     ensures { result ≡ 0 }
 {
-    let offers = Offers::none()
-        .insert(offered(1, 7, 101_000))
-        .insert(offered(2, 5, 100_500))
-        .insert(offered(3, 7, 101_000));
+    let mut offers = Offers::none();
+    offers.insert(offered(1, 7, 101_000));
+    offers.insert(offered(2, 5, 100_500));
+    offers.insert(offered(3, 7, 101_000));
     let bought = offers.buy_in(0, 10);
     let given = bought.given;
     let first = given[0];

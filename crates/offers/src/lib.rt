@@ -95,9 +95,9 @@ impl Offers {
 
     // Adds an offer ahead of the first one that it overtakes, or after all of them if it overtakes none. The new offer
     // is carried along the rows to its place. From there on, each row takes the offer that was ahead of it.
-    pub fn insert(self, o: Offer) -> Offers
-        requires { self.count < most_offers }
-        ensures { result ≡ with_offer self o }
+    pub fn insert(&mut self, o: Offer)
+        requires { self.old.count < most_offers }
+        ensures { self.new ≡ with_offer self.old o }
     {
         let mut rows = self.rows;
         let n = self.count;
@@ -114,17 +114,15 @@ impl Offers {
             k += 1;
         }
         rows[n] = carried;
-        Offers {
-            rows: rows,
-            count: n + 1,
-        }
+        self.rows = rows;
+        self.count = n + 1;
     }
 
     // Makes the buy-in of one obligation, of which the given quantity is left. It passes once over the offers, in the
     // order of the auction, and skips an offer that gives nothing.
-    pub fn buy_in(self, obligation: u64, left: u64) -> BuyIn
-        requires { self.count ≤ most_offers }
-        ensures { result ≡ bought_with (given obligation left (listed_offers self)) }
+    pub fn buy_in(&self, obligation: u64, left: u64) -> BuyIn
+        requires { self.now.count ≤ most_offers }
+        ensures { result ≡ bought_with (given obligation left (listed_offers self.now)) }
     {
         let rows = self.rows;
         let n = self.count;

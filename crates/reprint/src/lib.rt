@@ -1,8 +1,8 @@
 // The lines of the latest Close. The book keeps them, so that Again can give them once more.
 #![tactic(auto)]
 
-ghost use Rattle.std.specs.Prelude.{◌≡◌, ◌+◌, ◌*◌, ◌≤◌, [], length};
-ghost use Rattle.ledger.specs.Lines.{words_in_line, fewest_words};
+ghost use Rattle.std.specs.Prelude.{◌≡◌, ◌+◌, ◌*◌, ◌≤◌, [], length, take};
+ghost use Rattle.ledger.specs.Lines.{words_in_line, fewest_words, most_lines};
 ghost use Rattle.closing.specs.Lines.{line_at, lines_read, written, SoundLine};
 ghost use Rattle.reprint.specs.Kept.{kept_line, line_of, kept_from, lines_kept, Keepable, ValidLast};
 
@@ -100,18 +100,21 @@ impl LastClose {
         }
     }
 
-    // Writes the lines to the front of a list of words. Each word after them stays as it was.
-    pub fn write(self, lines: &mut [u64])
-        requires { (ValidLast self) × (fewest_words ≤ length lines.old) }
-        ensures { lines.new ≡ written (lines_kept self) lines.old }
+    // The lines that are kept.
+    fn listed(&self) -> &[KeptLine]
+        requires { self.now.count ≤ most_lines }
+        ensures { result.now ≡ take self.now.count self.now.rows }
     {
-        let rows = self.rows;
-        let kept = self.count;
-        let mut i = 0;
-        while i < kept {
-            let row = rows[i];
+        &self.rows[..self.count]
+    }
+
+    // Writes the lines to the front of a list of words. Each word after them stays as it was.
+    pub fn write(&self, lines: &mut [u64])
+        requires { (ValidLast self.now) × (fewest_words ≤ length lines.old) }
+        ensures { lines.new ≡ written (lines_kept self.now) lines.old }
+    {
+        for (i, row) in self.listed().iter().enumerate() {
             closing::put_line(lines, i, row.line());
-            i += 1;
         }
     }
 }

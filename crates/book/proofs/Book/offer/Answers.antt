@@ -51,8 +51,8 @@ overflow_cast-quantity c = record { fits = omega (arith, (numbers (goal.at.overf
 pub overflow_cast-price : goal.overflow_cast-price
 overflow_cast-price c = record { fits = omega (arith, (numbers (goal.at.overflow_cast-price c).In_default).price_within.1) }
 
-pub insert-self-requires : goal.insert-self-requires
-insert-self-requires c = offers_few _ _ _ _ _ _ (passes (goal.at.insert-self-requires c).In_default).2
+pub insert-requires : goal.insert-requires
+insert-requires c = offers_few _ _ _ _ _ _ (passes (goal.at.insert-requires c).In_default).2
 
 pub returns : goal.returns
 unfolding offer offer_refusals offer_refusals_in
@@ -64,6 +64,6 @@ returns c =
     let made : Offers → Done = λ (held : Offers).
     record { answer = 0; book = with_ledger (record { obligations = l.obligations; count = l.count; offers = held; accounts = l.accounts }) b } in
     answered (λ (r : Done). r.book)
-    (ap made c.insert-self.ensures ∙ done_for _ done (done_refused b) c.may_offer.ensures c.in_default.is
+    (ap made c.insert.ensures ∙ done_for _ done (done_refused b) c.may_offer.ensures c.in_default.is
     ∙ fetch_number _ (offer_refusals_for b a.price) (λ o. done) (done_refused b) done refl (fetched l a.obligation))
     (offer_valid _ c.requires a.obligation a.supplier a.quantity a.price)

@@ -35,17 +35,17 @@ stored-requires c = (given (goal.at.stored-requires c).In_default).start_most
 pub overflow_cast-rate : goal.overflow_cast-rate
 overflow_cast-rate c = record { fits = omega (arith, (given (goal.at.overflow_cast-rate c).In_default).rate_most) }
 
-pub enter-rates-requires : goal.enter-rates-requires
-enter-rates-requires c =
+pub enter-requires : goal.enter-requires
+enter-requires c =
     let a = c.args in
-    let fits = room_fits (today_of a.self) a.self.rates c.requires.rates (row_of a.start a.rate) (given (goal.at.enter-rates-requires c).In_default).room in
+    let fits = room_fits (today_of a.self) a.self.rates c.requires.rates (row_of a.start a.rate) (given (goal.at.enter-requires c).In_default).room in
     (c.requires.rates.few, subst⁻¹ (λ (d : StoredDay). place_of (day_of d) (listed_rates a.self.rates) < most_rows) c.stored.ensures fits)
 
 pub returns : goal.returns
 unfolding rated
 returns c =
     let a = c.args in
-    let entered = c.enter-rates.ensures ∙ ap (λ (d : StoredDay). with_rate (record { start = d; rate = a.rate }) a.self.rates) c.stored.ensures in
+    let entered = c.enter.ensures ∙ ap (λ (d : StoredDay). with_rate (record { start = d; rate = a.rate }) a.self.rates) c.stored.ensures in
     answered (λ (r : Done). r.book)
     (ap (λ (rates : Rates). record { answer = 0; book = with_rates rates a.self }) entered
     ∙ done_for _ (rate_done a.self a.start a.rate) (done_refused a.self) c.rate.ensures c.in_default.is)

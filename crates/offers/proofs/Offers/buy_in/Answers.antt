@@ -15,12 +15,12 @@ loop-k-init c = passed_none _ _ _ _
 pub overflow_sub-rest : goal.overflow_sub-rest
 overflow_sub-rest c =
     let args = c.args in
-    let offer = get_or args.self.rows c.loop-k.k no_offer in
+    let offer = get_or args.self.now.rows c.loop-k.k no_offer in
     gives_within offer args.obligation _ _ c.quantity_from-q.ensures
 
 pub loop-k-preserved : goal.loop-k-preserved
 loop-k-preserved c =
-    let size : length c.args.self.rows ≡ most_offers = search (length_mapped, rules) in
+    let size : length c.args.self.now.rows ≡ most_offers = search (length_mapped, rules) in
     let few = c.requires in
     let more = c.loop-k-test.true in
     let q = c.quantity_from-q.ensures in

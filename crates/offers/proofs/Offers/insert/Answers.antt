@@ -18,7 +18,7 @@ loop-k-init c = carried_begins _ _ _ (search (length_mapped, rules))
 
 pub loop-k-preserved : goal.loop-k-preserved
 loop-k-preserved c =
-    let size : length c.args.self.rows ≡ most_offers = search (length_mapped, rules) in
+    let size : length c.args.self.now.rows ≡ most_offers = search (length_mapped, rules) in
     let room = c.requires in
     let more = c.loop-k-test.true in
     let test = sym c.makes_way.ensures in
@@ -34,8 +34,8 @@ loop-k-preserved c =
 pub returns : goal.returns
 returns c =
     let args = c.args in
-    let size : length args.self.rows ≡ most_offers = search (length_mapped, rules) in
+    let size : length args.self.now.rows ≡ most_offers = search (length_mapped, rules) in
     let now = c.loop-k in
-    ap (λ (l : List Offer). record { rows = l; count = args.self.count + 1 })
+    ap (λ (l : List Offer). record { rows = l; count = args.self.now.count + 1 })
     (carried_ends _ _ _ c.requires size now.rows now.carried now.moved now.k now.invariant
     (search rules))
