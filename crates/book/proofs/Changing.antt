@@ -3,12 +3,12 @@
 use Prim.Native.Nat.{ℕ, ◌≤◌, ◌<◌}
 use native.Mathlib.Omega.{arith}
 use Rattle.std.specs.Prelude.{Result, Ok, Err}
-use mathlib.Core.Path.{◌≡◌, refl, sym, ap, ap₂, ◌∙◌}
+use mathlib.Core.Path.{◌≡◌, refl, sym, ap, ◌∙◌}
 use mathlib.Core.Bool.{true}
 use mathlib.Core.List.{List}
 use borrow.Author.Tests.{ne_eqb}
 use Rattle.basics.specs.declared.Reason.{Reason}
-use Rattle.basics.specs.Reasons.{number_of, answer_of}
+use Rattle.basics.specs.Reasons.{answer_of}
 use Rattle.basics.specs.Refusals.{Refusal}
 use Rattle.basics.proofs.Refusals.{rising_from}
 use Rattle.ledger.specs.declared.Obligation.{Obligation}
@@ -38,29 +38,19 @@ module _ (input : List Refusal) (on : Obligation → List Refusal) (shown : Obli
       (λ k z. rw (ne_eqb k 0 z)) (λ h i j. refl)
 
   module _ (t : Result Change Reason) (is : effect_of t ≡ change) where
+    number : (u : Result Change Reason) → (effect_of u).answer ≡ answer_of u
+    number (Ok d) = refl
+    number (Err r) = refl
+
     -- if the call is done, the obligation has a place
     pub change_placed : l.count ≤ most_obligations → answer_of t ≡ 0 → n < most_obligations
     change_placed few z =
         fetch_case input on done refused_change (λ x. x.answer ≡ 0 → n < most_obligations) l n p (λ k y e. absurd (y e)) (λ h i j e. omega arith)
-        (sym (ap (λ (x : Effect). x.answer) is) ∙ answers t ∙ z)
-      where
-        answers : (u : Result Change Reason) → (effect_of u).answer ≡ answer_of u
-        answers (Ok d) = refl
-        answers (Err r) = refl
+        (sym (ap (λ (x : Effect). x.answer) is) ∙ number t ∙ z)
 
     -- what the call returns with the ledger after it
-    module _ {A : Type 0} (told : ℕ → ℕ → Ledger → A) {after : Ledger} (made : after ≡ changed n (effect_of t) l) where
-      abbrev by : Effect → A
-      by x = told x.answer x.result (changed n x l)
-
-      made_by : by (effect_of t) ≡ fetch_outcome input (fetched l n) on (λ o. told 0 (shown o) (with_obligation n (next o) l)) (λ k. told k 0 l)
-      made_by = ap by is ∙ told_by told
-
-      pub change_done : {d : Change} → t ≡ Ok d →
-          told 0 d.result after ≡ fetch_outcome input (fetched l n) on (λ o. told 0 (shown o) (with_obligation n (next o) l)) (λ k. told k 0 l)
-      change_done {d} q = ap (told 0 d.result) (made ∙ ap (λ (x : Effect). changed n x l) (ap effect_of q)) ∙ sym (ap (λ (u : Result Change Reason). by (effect_of u)) q) ∙ made_by
-
-      pub change_refused : {r : Reason} {k : ℕ} → t ≡ Err r → k ≡ number_of r →
-          told k 0 after ≡ fetch_outcome input (fetched l n) on (λ o. told 0 (shown o) (with_obligation n (next o) l)) (λ k. told k 0 l)
-      change_refused {r} q e =
-          ap₂ (λ (k : ℕ) (x : Ledger). told k 0 x) e (made ∙ ap (λ (x : Effect). changed n x l) (ap effect_of q)) ∙ sym (ap (λ (u : Result Change Reason). by (effect_of u)) q) ∙ made_by
+    pub change_told : {A : Type 0} (told : ℕ → ℕ → Ledger → A) {k r : ℕ} {after : Ledger} →
+        k ≡ answer_of t → r ≡ (effect_of t).result → after ≡ changed n (effect_of t) l →
+        told k r after ≡ fetch_outcome input (fetched l n) on (λ o. told 0 (shown o) (with_obligation n (next o) l)) (λ k. told k 0 l)
+    change_told told answered shown made =
+        (λ i. told ((answered ∙ sym (number t)) i) (shown i) (made i)) ∙ ap (λ (x : Effect). told x.answer x.result (changed n x l)) is ∙ told_by told

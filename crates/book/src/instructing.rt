@@ -163,17 +163,10 @@ impl Book {
     {
         let change = cancel_change(&self.ledger, obligation, member);
         self.ledger.change(obligation, &change);
-        match change {
-            Ok(done) => Cancelled {
-                answer: 0,
-                moved: done.result,
-                book: self,
-            },
-            Err(reason) => Cancelled {
-                answer: u64::from(reason),
-                moved: 0,
-                book: self,
-            },
+        Cancelled {
+            answer: basics::answer_of(&change),
+            moved: ledger::result_of(&change),
+            book: self,
         }
     }
 
@@ -185,17 +178,10 @@ impl Book {
     {
         let change = deliver_change(&self.ledger, obligation, self.day.today, quantity);
         self.ledger.change(obligation, &change);
-        match change {
-            Ok(done) => Delivered {
-                answer: 0,
-                cash: done.result,
-                book: self,
-            },
-            Err(reason) => Delivered {
-                answer: u64::from(reason),
-                cash: 0,
-                book: self,
-            },
+        Delivered {
+            answer: basics::answer_of(&change),
+            cash: ledger::result_of(&change),
+            book: self,
         }
     }
 }

@@ -23,7 +23,8 @@ mod open;
 mod rating;
 mod showing;
 
-// What the days have brought: the day that it is, and which Closes there were.
+// What the days have brought: the day that it is, and which Closes there were. These are two flags and no enum, because
+// the laws `month_refuses` and `again_refuses` name them.
 #[derive(Clone, Copy)]
 pub struct BookDay {
     pub today: Day,

@@ -10,10 +10,11 @@ use calendar::Day;
 use ledger::{Fetched, NO_PARTS, Obligation};
 
 // Whether a member sells an obligation that is late: due before today, with something outstanding.
+#[tactic(auto, unfolding(crate::specs::Showing::is_late))]
 fn is_late(today: Day, member: u64, o: Obligation) -> bool
     ensures { result ≡ is_late today member o }
 {
-    o.deal.seller as u64 == member && (o.deal.day.0 < today.0 && 0 < o.parts.outstanding)
+    o.deal.seller as u64 == member && (o.deal.day < today && 0 < o.parts.outstanding)
 }
 
 impl Book {

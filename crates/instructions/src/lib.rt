@@ -32,7 +32,8 @@ pub struct Instruction {
 }
 
 // One member's instruction, as the book keeps it. Side 0 delivers, side 1 receives. Its fields are narrow, because the
-// book holds 128 of these and is copied at every call.
+// book holds 128 of these and is copied at every call. The side is a number, because `enter_refusals` tests the side of
+// the leg of an instruction, which may be any number.
 #[derive(Clone, Copy)]
 pub struct Leg {
     pub amount: u64,
@@ -44,7 +45,8 @@ pub struct Leg {
     pub state: LegState,
 }
 
-// The legs that were entered, numbered from 0: the first count rows.
+// The legs that were entered, numbered from 0: the first count rows. They are rows with a count, because definitions
+// build them, the theorem compares them, and a heap could run out, which no refusal says.
 #[derive(Clone, Copy)]
 pub struct Legs {
     pub rows: [Leg; MOST_LEGS],
@@ -120,7 +122,7 @@ impl Leg {
     fn same_business(self, new: Leg) -> bool
         ensures { result ≡ same_business self new }
     {
-        self.quantity == new.quantity && self.day.0 == new.day.0
+        self.quantity == new.quantity && self.day == new.day
     }
 
     // Whether a leg is one that a new leg matches.
@@ -226,7 +228,8 @@ impl Legs {
 }
 
 impl Entry {
-    // The number of the new leg, where there were so many legs before.
+    // The number of the new leg, where there were so many legs before. It is told for each case, as S9 of docs/CODE.md has
+    // it.
     pub fn leg_number(self, legs: u64) -> u64
         ensures { result ≡ leg_number self legs }
     {

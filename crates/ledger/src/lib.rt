@@ -352,6 +352,16 @@ impl Obligation {
     }
 }
 
+// The result of a call on an obligation; a refused call has the result 0.
+pub fn result_of(change: &Result<Change, Reason>) -> u64
+    ensures { result ≡ (effect_of change.now).result }
+{
+    match change {
+        Ok(done) => done.result,
+        Err(_) => 0,
+    }
+}
+
 impl Ledger {
     // The ledger of a fresh book: it has no obligations and no offers, and all accounts are zero.
     pub fn new() -> Ledger

@@ -42,7 +42,7 @@ pub fn is_bad_first(closed_days: &ClosedDays, first: Day) -> bool
 fn is_bad_day(closed_days: &ClosedDays, today: Day, day: Day) -> bool
     ensures { result ≡ bad_day closed_days.now today day }
 {
-    !closed_days.is_clearing(day) || (day.0 < today.0 || LATEST_DAY < day.0)
+    !closed_days.is_clearing(day) || (day < today || LATEST_DAY < day.0)
 }
 
 // The refusals of an instruction, in a book with these closed days, this day and this many legs.
@@ -117,7 +117,7 @@ pub fn deliver_of(today: Day, found: Obligation, quantity: u64) -> Result<(), Re
     if (found.parts.outstanding as u64) < quantity {
         return Err(Reason::TooLittleOutstanding);
     }
-    if today.0 < found.deal.day.0 {
+    if today < found.deal.day {
         return Err(Reason::WrongStage);
     }
     Ok(())
@@ -145,7 +145,7 @@ fn is_not_in_buy_in(terms: Terms, today: Day, age: ClearingDays, found: Obligati
     requires { ValidTerms terms }
     ensures { result ≡ not_in_buy_in terms today age.0 found }
 {
-    today.0 < found.deal.day.0 || !ledger::buys_in(terms.grace, found.last_of(terms), age)
+    today < found.deal.day || !ledger::buys_in(terms.grace, found.last_of(terms), age)
 }
 
 // The refusals of an offer for a fetched obligation with its age, in a book with this many offers.
@@ -180,7 +180,7 @@ pub fn offer_of(
 fn is_bad_start(today: Day, start: Day) -> bool
     ensures { result ≡ bad_start today start }
 {
-    start.0 < today.0 || LAST_DAY < start.0
+    start < today || LAST_DAY < start.0
 }
 
 // Whether the last place is kept for a row that has started, so that a Close can come.
@@ -189,7 +189,7 @@ fn keeps_last(today: Day, held: &Rates, start: Day) -> bool
     requires { held.now.count ≤ most_rows }
     ensures { result ≡ last_kept today held.now start }
 {
-    held.count + 1 == MOST_ROWS && (today.0 < start.0 && held.none_started(today))
+    held.count + 1 == MOST_ROWS && (today < start && held.none_started(today))
 }
 
 // Whether there is no place for a row with this starting day.

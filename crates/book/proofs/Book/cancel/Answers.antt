@@ -9,7 +9,7 @@ use Rattle.book.specs.Book.{with_ledger}
 use Rattle.book.specs.Instructing.{cancel_change, cancel}
 use Rattle.book.proofs.Answers.{answered}
 use Rattle.book.proofs.Kept.{cancel_valid}
-use Rattle.book.proofs.Changing.{change_placed, change_done, change_refused}
+use Rattle.book.proofs.Changing.{change_placed, change_told}
 use Rattle.book.proofs.Book.cancel.Goals as goal
 use Rattle.book.proofs.Book.cancel.Goals.{Start}
 
@@ -26,18 +26,10 @@ change-requires c =
     let a = c.args in
     change_placed (cancel_refusals_in a.member) (λ o. cancel_refusals_of o a.member) (moved_by_wish a.member) (wishing a.member) refl a.self.ledger a.obligation _ c.cancel_change-change.ensures c.requires.ledger.few
 
-pub returns-in-Ok : goal.returns-in-Ok
+pub returns : goal.returns
 unfolding cancel_change cancel
-returns-in-Ok c =
+returns c =
     let a = c.args in
     answered (λ (r : Cancelled). r.book)
-    (change_done (cancel_refusals_in a.member) (λ o. cancel_refusals_of o a.member) (moved_by_wish a.member) (wishing a.member) refl a.self.ledger a.obligation _ c.cancel_change-change.ensures (told (goal.at.returns-in-Ok c).Start) c.change.ensures c.in-Ok.is)
-    (cancel_valid _ c.requires a.obligation a.member)
-
-pub returns-in-Err : goal.returns-in-Err
-unfolding cancel_change cancel
-returns-in-Err c =
-    let a = c.args in
-    answered (λ (r : Cancelled). r.book)
-    (change_refused (cancel_refusals_in a.member) (λ o. cancel_refusals_of o a.member) (moved_by_wish a.member) (wishing a.member) refl a.self.ledger a.obligation _ c.cancel_change-change.ensures (told (goal.at.returns-in-Err c).Start) c.change.ensures c.in-Err.is c.from.ensures)
+    (change_told (cancel_refusals_in a.member) (λ o. cancel_refusals_of o a.member) (moved_by_wish a.member) (wishing a.member) refl a.self.ledger a.obligation _ c.cancel_change-change.ensures (told (goal.at.returns c).Start) c.answer_of.ensures c.result_of.ensures c.change.ensures)
     (cancel_valid _ c.requires a.obligation a.member)

@@ -10,7 +10,7 @@ use Rattle.book.specs.Book.{with_ledger, today_of}
 use Rattle.book.specs.Instructing.{deliver_change, deliver}
 use Rattle.book.proofs.Answers.{answered}
 use Rattle.book.proofs.Kept.{deliver_valid}
-use Rattle.book.proofs.Changing.{change_placed, change_done, change_refused}
+use Rattle.book.proofs.Changing.{change_placed, change_told}
 use Rattle.book.proofs.Book.deliver.Goals as goal
 use Rattle.book.proofs.Book.deliver.Goals.{Start}
 
@@ -27,18 +27,10 @@ change-requires c =
     let a = c.args in
     change_placed (deliver_refusals_in a.quantity) (λ o. deliver_refusals_of (today_of a.self) o a.quantity) (λ o. cash_of o a.quantity) (moving part.Delivered a.quantity) refl a.self.ledger a.obligation _ c.deliver_change-change.ensures c.requires.ledger.few
 
-pub returns-in-Ok : goal.returns-in-Ok
+pub returns : goal.returns
 unfolding deliver_change deliver
-returns-in-Ok c =
+returns c =
     let a = c.args in
     answered (λ (r : Delivered). r.book)
-    (change_done (deliver_refusals_in a.quantity) (λ o. deliver_refusals_of (today_of a.self) o a.quantity) (λ o. cash_of o a.quantity) (moving part.Delivered a.quantity) refl a.self.ledger a.obligation _ c.deliver_change-change.ensures (told (goal.at.returns-in-Ok c).Start) c.change.ensures c.in-Ok.is)
-    (deliver_valid _ c.requires a.obligation a.quantity)
-
-pub returns-in-Err : goal.returns-in-Err
-unfolding deliver_change deliver
-returns-in-Err c =
-    let a = c.args in
-    answered (λ (r : Delivered). r.book)
-    (change_refused (deliver_refusals_in a.quantity) (λ o. deliver_refusals_of (today_of a.self) o a.quantity) (λ o. cash_of o a.quantity) (moving part.Delivered a.quantity) refl a.self.ledger a.obligation _ c.deliver_change-change.ensures (told (goal.at.returns-in-Err c).Start) c.change.ensures c.in-Err.is c.from.ensures)
+    (change_told (deliver_refusals_in a.quantity) (λ o. deliver_refusals_of (today_of a.self) o a.quantity) (λ o. cash_of o a.quantity) (moving part.Delivered a.quantity) refl a.self.ledger a.obligation _ c.deliver_change-change.ensures (told (goal.at.returns c).Start) c.answer_of.ensures c.result_of.ensures c.change.ensures)
     (deliver_valid _ c.requires a.obligation a.quantity)
