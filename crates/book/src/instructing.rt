@@ -163,9 +163,11 @@ impl Book {
     {
         let change = cancel_change(&self.ledger, obligation, member);
         self.ledger.change(obligation, &change);
+        let answer = basics::answer_of(&change);
+        let moved = ledger::result_of(&change);
         Cancelled {
-            answer: basics::answer_of(&change),
-            moved: ledger::result_of(&change),
+            answer,
+            moved,
             book: self,
         }
     }
@@ -178,9 +180,11 @@ impl Book {
     {
         let change = deliver_change(&self.ledger, obligation, self.day.today, quantity);
         self.ledger.change(obligation, &change);
+        let answer = basics::answer_of(&change);
+        let cash = ledger::result_of(&change);
         Delivered {
-            answer: basics::answer_of(&change),
-            cash: ledger::result_of(&change),
+            answer,
+            cash,
             book: self,
         }
     }

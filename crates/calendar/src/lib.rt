@@ -24,7 +24,8 @@ pub struct StoredDay(pub u16);
 #[derive(Clone, Copy, PartialEq, Eq, PartialOrd, Ord)]
 pub struct ClearingDays(pub u64);
 
-// The book's closed days: the first `count` places of `days`. The places after them are free.
+// The book's closed days: the first `count` places of `days`. The places after them are free. It is a plain record, since
+// `closed_days` in specs/ builds it and the theorem compares whole books; a heap could run out, and no refusal says so.
 #[derive(Clone, Copy)]
 pub struct ClosedDays {
     pub days: [Day; MOST_CLOSED],
@@ -37,14 +38,11 @@ fn is_rising(days: &[u64]) -> bool
     ensures { result ≡ rises_from 0 days.now }
 {
     let mut least: u64 = 0;
-    let mut i = 0;
-    while i < days.len() {
-        let day = days[i];
-        if day < least || LAST_DAY < day {
+    for day in days {
+        if *day < least || LAST_DAY < *day {
             return false;
         }
-        least = day + 1;
-        i += 1;
+        least = *day + 1;
     }
     true
 }
@@ -58,17 +56,12 @@ pub fn refuses_closed(days: &[u64]) -> bool
     MOST_CLOSED < days.len() || !is_rising(days)
 }
 
-// How many weekdays there are up to a day, as if no day were closed.
+// How many weekdays there are up to a day, as if no day were closed. The week under way has begun with a weekend.
 #[tactic(auto, using(crate::proofs::Counting::weekdays_by_weeks))]
 fn weekdays_to(day: Day) -> u64
     ensures { result ≡ weekdays_to day.0 }
 {
-    let weeks = 5 * (day.0 / 7);
-    let rest = day.0 % 7;
-    if rest == 0 {
-        return weeks;
-    }
-    weeks + rest - 1
+    5 * (day.0 / 7) + (day.0 % 7).saturating_sub(1)
 }
 
 // Whether a closed day is a weekday that is later than one day and not later than another.
@@ -80,7 +73,7 @@ fn takes_away(closed: Day, after: Day, to: Day) -> bool
 }
 
 impl Day {
-    // The day as a book stores it.
+    // The day as a book stores it. It is no `From`, because it requires a day that fits two bytes.
     pub fn stored(self) -> StoredDay
         requires { self.0 ≤ last_day }
         ensures { result ≡ stored_day self }
@@ -90,7 +83,7 @@ impl Day {
 }
 
 impl StoredDay {
-    // The calendar day that is stored.
+    // The calendar day that is stored. It is a method, as `Day::stored` is, so that both directions read alike.
     pub fn day(self) -> Day
         ensures { result ≡ day_of self }
     {
@@ -107,14 +100,12 @@ impl ClosedDays {
         ensures list_stays { list.exit.now ≡ list.entry.now }
     {
         let mut days = [Day(0); MOST_CLOSED];
-        let mut i = 0;
-        while i < list.len() {
-            days[i] = Day(list[i]);
-            i += 1;
+        for (i, day) in list.iter().enumerate() {
+            days[i] = Day(*day);
         }
         ClosedDays {
             days: days,
-            count: i,
+            count: list.len(),
         }
     }
 
@@ -147,11 +138,10 @@ impl ClosedDays {
     pub fn next_after(&self, day: Day) -> Option<Day>
         ensures { result ≡ next_after (listed_days self.now) day }
     {
-        let mut d = day.0;
-        while d < LAST_DAY {
-            d += 1;
-            if self.is_clearing(Day(d)) {
-                return Some(Day(d));
+        for d in day.0..LAST_DAY {
+            let next = Day(d + 1);
+            if self.is_clearing(next) {
+                return Some(next);
             }
         }
         None

@@ -12,7 +12,7 @@ ghost use Rattle.std.specs.Prelude.{◌≡◌, ◌≤◌, eqb};
 ghost use Rattle.basics.specs.Choice.{pick};
 ghost use Rattle.calendar.specs.Closed.{day, listed_days};
 ghost use Rattle.calendar.specs.Days.{clearing_days, nth_after};
-ghost use Rattle.examples.specs.Table.{as_number, day_or_none, offer_of};
+ghost use Rattle.examples.specs.Table.{day_or_none, offer_of};
 
 // Prints one answer of an example and answers 1 where it is not the settled one, else 0. The answer is the same if it
 // could not be printed.
@@ -26,13 +26,6 @@ fn compared(output: Stdout, item: u64, answer: u64, settled: u64) -> u64
     }
     let _ = println!(output; "example {item}: {answer}, settled is {settled}");
     1
-}
-
-// 1 for yes, 0 for no.
-fn as_number(test: bool) -> u64
-    ensures { result ≡ as_number test }
-{
-    if test { 1 } else { 0 }
 }
 
 // Examples 1 to 3: penalties and compensation.
@@ -50,30 +43,30 @@ fn rounded_amounts(output: Stdout) -> u64
 fn limits(output: Stdout) -> u64
     ensures { result ≡ 0 }
 {
-    compared(output, 4, as_number(amounts::above_cap(107_998, 99_999)), 0)
-        + compared(output, 4, as_number(amounts::above_cap(107_999, 99_999)), 1)
+    compared(output, 4, u64::from(amounts::above_cap(107_998, 99_999)), 0)
+        + compared(output, 4, u64::from(amounts::above_cap(107_999, 99_999)), 1)
         + compared(
             output,
             5,
-            as_number(amounts::amounts_match(10_000_000, 10_000_200)),
+            u64::from(amounts::amounts_match(10_000_000, 10_000_200)),
             1,
         )
         + compared(
             output,
             5,
-            as_number(amounts::amounts_match(10_000_000, 10_000_201)),
+            u64::from(amounts::amounts_match(10_000_000, 10_000_201)),
             0,
         )
         + compared(
             output,
             6,
-            as_number(amounts::amounts_match(10_000_001, 10_002_501)),
+            u64::from(amounts::amounts_match(10_000_001, 10_002_501)),
             1,
         )
         + compared(
             output,
             6,
-            as_number(amounts::amounts_match(10_000_001, 10_002_502)),
+            u64::from(amounts::amounts_match(10_000_001, 10_002_502)),
             0,
         )
 }

@@ -1,6 +1,6 @@
 -- At every accepted Close the penalties are those of its price and of the rate in force by the events:
 -- `known_penalised`. After an accepted Close no Close of the book is refused by 26: `never_again_unset` at the end.
-use Rattle.std.specs.Prelude.{Option, Some, None, Option as Perhaps}
+use Rattle.std.specs.Prelude.{Option, Some, None}
 use Prim.Native.Nat.{ℕ, ◌≤◌}
 use native.Mathlib.Omega.{arith}
 use mathlib.Core.Path.{◌≡◌, refl, sym, ap, ap₂, ◌∙◌}
@@ -47,7 +47,7 @@ module _ (o : Opening) (b : Book) (es : List Event) (g : Agrees o b es) (k : Rec
       cents_by : (l : Line) (row : RateRow) → force_of b ≡ Some row → penalty l.quantity c.end.price c.end.rate ≡ penalty l.quantity d.price row.rate
       cents_by l row e = ap₂ (λ (price rate : ℕ). penalty l.quantity price rate) (sym c.price) (c.rate ∙ ap rate_of e)
 
-      by : (x : Perhaps RateRow) → force_of b ≡ x → PenaltiesBy o es d.price d.lines
+      by : (x : Option RateRow) → force_of b ≡ x → PenaltiesBy o es d.price d.lines
       by None e = absurd (never (sym c.is_set ∙ ap is_unset e))
       by (Some row) e = record {
         row = row;

@@ -1,5 +1,5 @@
 -- What a book stores besides its obligations, told by the events alone. The latest event comes first.
-use Rattle.std.specs.Prelude.{ℕ, ◌+◌, ◌-◌, Bool, true, false, ◌&&◌, not, List, [], ◌∷◌, ◌++◌, eqb, get_or, set, Option, None, Some, Option as Perhaps}
+use Rattle.std.specs.Prelude.{ℕ, ◌+◌, ◌-◌, Bool, true, false, ◌&&◌, not, List, [], ◌∷◌, ◌++◌, eqb, get_or, set, Option, None, Some}
 use Rattle.basics.specs.Choice.{pick}
 use Rattle.offers.specs.declared.Offer.{Offer}
 use Rattle.rates.specs.declared.RateRow.{RateRow}
@@ -48,7 +48,7 @@ rates_in (e ∷ es) = (facts e).rates ++ rates_in es
 
 -- J18, Whole journals: the row in force after these events: of the accepted Rates whose starting day is not after
 -- today, the one with the greatest starting day, and the latest of those with this day
-unfoldable pub force_in : Opening → List Event → Perhaps RateRow
+unfoldable pub force_in : Opening → List Event → Option RateRow
 force_in o es = in_force (today_in o es) (rates_in es)
 
 -- ---- Enter and Withdraw

@@ -1,19 +1,17 @@
 -- Laws on the rate in force: which row it is, and that a row that has started stays started.
-use Prim.Native.Nat.{ℕ, zero, suc, ◌+◌, ◌-◌, ◌≤◌, ◌<◌}
+use Prim.Native.Nat.{ℕ, zero, suc, ◌≤◌, ◌<◌}
 use native.Mathlib.Omega.{arith}
 use mathlib.Core.Path.{◌≡◌, refl, sym, ap, subst, ◌∙◌}
 use mathlib.Core.Bool.{Bool, true, false}
 use mathlib.Core.Logic.{⊎_elim}
 use mathlib.Core.List.{List, [], ◌∷◌}
 use lib.Dec.{ltb, leb, eqb}
-use lib.ListN.{length, get_or, take, drop, length-take, drop_of_length-le}
-use lib.Seq.{get_or-take, length-take-le}
+use lib.ListN.{length, get_or}
 use borrow.Author.Tests.{leb-true, eqb-true, eqb-false, le-leb, lt-ltb, le-ltb}
 use Rattle.basics.specs.Choice.{pick}
 use Rattle.basics.specs.Lists.{Every}
 use Rattle.basics.proofs.Cases.{never, pick_case, below_or_not}
 use Rattle.basics.proofs.Everywhere.{every_at}
-use Rattle.basics.proofs.Fronts.{drop_more}
 use Rattle.calendar.specs.declared.Day.{Day}
 use Rattle.rates.specs.declared.RateRow.{RateRow}
 use Rattle.std.specs.Prelude.{Option}
@@ -24,31 +22,6 @@ use Rattle.rates.specs.Force.{has_started, or_later, in_force, is_unset}
 -- a row, and what is in force without it
 abbrev taken : Day → RateRow → Option RateRow → Option RateRow
 taken t r f = pick (has_started t r) (or_later r f) f
-
--- ---- the search, from the last row to the first
-module _ (t : Day) (rows : List RateRow) (n : ℕ) (few : n ≤ length rows) where
-  pub force_none : None ≡ in_force t (drop n (take n rows))
-  unfolding in_force
-  force_none = rw (drop_of_length-le (take n rows) {i = n} (omega (arith, length-take n rows)))
-
-  -- row k, and what is in force among the rows after it
-  force_from : (k : ℕ) → k < n →
-      in_force t (drop k (take n rows)) ≡ taken t (get_or rows k no_row) (in_force t (drop (k + 1) (take n rows)))
-  unfolding in_force
-  force_from k h =
-      rw (drop_more (take n rows) k no_row (omega (arith, length-take-le n rows few)), get_or-take n rows k no_row h)
-
-  module _ (k : ℕ) (some : 0 < k) (below : k ≤ n) (found : Option RateRow) (e : found ≡ in_force t (drop k (take n rows))) where
-    force_back : taken t (get_or rows (k - 1) no_row) found ≡ in_force t (drop (k - 1) (take n rows))
-    force_back =
-        let back : k - 1 + 1 ≡ k = omega (arith, some) in
-        sym (force_from (k - 1) (omega (arith, some, below)) ∙ ap (λ (j : ℕ). taken t (get_or rows (k - 1) no_row) (in_force t (drop j (take n rows)))) back ∙ ap (taken t (get_or rows (k - 1) no_row)) (sym e))
-
-    pub force_started : has_started t (get_or rows (k - 1) no_row) ≡ true → or_later (get_or rows (k - 1) no_row) found ≡ in_force t (drop (k - 1) (take n rows))
-    force_started q = rw q at force_back
-
-    pub force_waits : has_started t (get_or rows (k - 1) no_row) ≡ false → found ≡ in_force t (drop (k - 1) (take n rows))
-    force_waits q = rw q at force_back
 
 -- ---- whether a row has started
 pub later_set : (r : RateRow) (f : Option RateRow) → is_unset (or_later r f) ≡ false

@@ -1,17 +1,13 @@
 -- What the definitions say is what a pass over the rows by the library's methods on lists finds.
-use Rattle.std.proofs.Common.{ℕ, arith, nat_lt, subst, ◌+◌, ◌≤◌, ◌<◌, ◌⊎◌, inl, inr, ◌≡◌, refl, sym, ap, ◌∙◌, Bool, true, false, ◌||◌, Option, Some, None, List, [], ◌∷◌, length, fold, filter, reverse, position, unwrap_or, nat_eq, cond}
+use Rattle.std.proofs.Common.{not, arith, ◌+◌, ◌≡◌, refl, sym, ap, ◌∙◌, Bool, true, false, ◌||◌, Option, None, List, [], ◌∷◌, fold, filter, reverse, nat_eq, cond}
 use Rattle.std.specs.List.{list_any, position_or_len}
 use Rattle.std.proofs.lemmas.List.{reverse-append}
 use Rattle.std.proofs.lemmas.List.Elements.{filter-append}
 use Rattle.std.proofs.lemmas.List.Sums.{fold-append}
-use Rattle.std.proofs.lemmas.List.Recursion.{is_position_or_len}
-use borrow.Author.Tests.{lt-ltb, le-ltb}
 use Rattle.basics.specs.Choice.{pick}
-use Rattle.basics.proofs.Cases.{below_or_not}
 use Rattle.calendar.specs.declared.Day.{Day}
 use Rattle.rates.specs.declared.RateRow.{RateRow}
 use Rattle.rates.specs.Rows.{start_of, holds, place_of}
-use Rattle.rates.proofs.Placing.{place_most}
 use Rattle.rates.specs.Force.{has_started, or_later, in_force}
 
 -- F6, Rates: the row that is in force is found among those that have started, from the last row to the first
@@ -39,23 +35,12 @@ holds_any d [] = refl
 holds_any d (r ∷ rs) = ap (λ b. nat_eq (start_of r).0 d.0 || b) (holds_any d rs)
 
 -- F3, Rates: the place of a starting day is that of the first row that starts on it, or the place after the last row
-pub place_position : (d : Day) (rs : List RateRow) → place_of d rs ≡ unwrap_or (position (λ r. nat_eq (start_of r).0 d.0) rs) (length rs)
+pub place_position : (d : Day) (rs : List RateRow) → position_or_len (λ r. nat_eq (start_of r).0 d.0) rs ≡ place_of d rs
 unfolding place_of
-place_position d rs = same rs ∙ by (position_or_len starts rs) (length rs) (subst (λ k. k ≤ length rs) (same rs) (place_most d rs))
+place_position d [] = refl
+place_position d (r ∷ rs) = by (nat_eq (start_of r).0 d.0) (place_position d rs)
   where
-    starts : RateRow → Bool
-    starts r = nat_eq (start_of r).0 d.0
-
-    step : (b : Bool) (n : ℕ) → pick b 0 (n + 1) ≡ cond b 0 (1 + n)
-    step true n = refl
-    step false n = omega arith
-
-    same : (rs : List RateRow) → place_of d rs ≡ position_or_len starts rs
-    same rs = is_position_or_len (place_of d) starts refl (λ r rs. step (starts r) (place_of d rs)) rs
-
-    by : (k n : ℕ) → k ≤ n → k ≡ unwrap_or (cond (nat_lt k n) (Some k) None) n
-    by k n h = which (below_or_not k n)
-      where
-        which : (k < n) ⊎ (n ≤ k) → k ≡ unwrap_or (cond (nat_lt k n) (Some k) None) n
-        which (inl l) = rw (lt-ltb k n l)
-        which (inr m) = rw (le-ltb k n m) (omega (arith, h, m))
+    by : (b : Bool) → position_or_len (λ r. nat_eq (start_of r).0 d.0) rs ≡ place_of d rs →
+        cond (not b) (1 + position_or_len (λ r. nat_eq (start_of r).0 d.0) rs) 0 ≡ pick b 0 (place_of d rs + 1)
+    by true e = refl
+    by false e = omega (arith, e)

@@ -37,14 +37,14 @@ impl RateRow {
     fn has_started(self, today: Day) -> bool
         ensures { result ≡ has_started today self }
     {
-        self.start.day().0 <= today.0
+        self.start.day() <= today
     }
 
     // Whether the row starts on a day.
     fn starts_on(self, day: Day) -> bool
         ensures { result ≡ eqb (start_of self).0 day.0 }
     {
-        self.start.day().0 == day.0
+        self.start.day() == day
     }
 
     // Of the row and what was found among others, the one that starts later; the row, if both start on one day.
@@ -52,7 +52,7 @@ impl RateRow {
     fn or_later(self, found: Option<RateRow>) -> Option<RateRow>
         ensures { result ≡ or_later self found }
     {
-        let later = found.filter(|other| self.start.day().0 < other.start.day().0);
+        let later = found.filter(|other| self.start < other.start);
         later.or(Some(self))
     }
 }

@@ -54,18 +54,18 @@ fn line_at(lines: &[u64], i: usize) -> KeptLine
     }
 }
 
-impl KeptLine {
+impl From<KeptLine> for Line {
+    ghost from_gives = { λ k l. l ≡ line_of k };
+
     // The line as the Close reported it.
-    fn line(self) -> Line
-        ensures { result ≡ line_of self }
-    {
+    fn from(kept: KeptLine) -> Line {
         Line {
-            kind: self.kind as u64,
-            obligation: self.obligation as u64,
-            quantity: self.quantity as u64,
-            cents: self.cents,
-            supplier: self.supplier as u64,
-            price: self.price as u64,
+            kind: kept.kind as u64,
+            obligation: kept.obligation as u64,
+            quantity: kept.quantity as u64,
+            cents: kept.cents,
+            supplier: kept.supplier as u64,
+            price: kept.price as u64,
         }
     }
 }
@@ -88,11 +88,8 @@ impl LastClose {
         ensures lines_stay { lines.exit.now ≡ lines.entry.now }
     {
         let mut rows = [NO_LINE; MOST_LINES];
-        let mut i = 0;
-        while i < count {
-            let row = line_at(lines, i);
-            rows[i] = row;
-            i += 1;
+        for i in 0..count {
+            rows[i] = line_at(lines, i);
         }
         LastClose {
             rows: rows,
@@ -114,7 +111,7 @@ impl LastClose {
         ensures { lines.new ≡ written (lines_kept self.now) lines.old }
     {
         for (i, row) in self.listed().iter().enumerate() {
-            closing::put_line(lines, i, row.line());
+            closing::put_line(lines, i, Line::from(*row));
         }
     }
 }

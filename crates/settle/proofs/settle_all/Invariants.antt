@@ -1,4 +1,4 @@
--- The loop's invariant: `Stands` holds, and the buffers keep their lengths. The measure is how many turns are left.
+-- The loop's invariant: `Stands` holds, and the buffers keep their lengths.
 use Rattle.std.proofs.Common.{◌≡◌, List, ℕ, length}
 use Rattle.book.specs.declared.Book.{Book}
 use Rattle.settle.specs.declared.flow.Flow.{Flow}
@@ -11,9 +11,9 @@ abbrev pub held : Book → Flow → List ℕ → List ℕ → List ℕ → List 
 held book flow part line numbers words out =
     record { book = book; flow = flow; part = part; line = line; numbers = numbers; words = words; out = out }
 
-abbrev pub invariant-loop-turns : goal.invariant-loop-turns
-invariant-loop-turns l = record {
-  stands : Stands (begins l.initial.part l.initial.line l.initial.numbers l.initial.words l.initial.out) l.turns
+abbrev pub invariant-loop : goal.invariant-loop
+invariant-loop l = record {
+  stands : Stands (begins l.initial.part l.initial.line l.initial.numbers l.initial.words l.initial.out) l.counter
       (held l.played.book l.flow l.part l.line l.numbers l.words l.out);
   part_same : length l.part ≡ length l.initial.part;
   line_same : length l.line ≡ length l.initial.line;
@@ -21,6 +21,3 @@ invariant-loop-turns l = record {
   words_same : length l.words ≡ length l.initial.words;
   out_same : length l.out ≡ length l.initial.out;
 }
-
-abbrev pub decreases-loop-turns : goal.decreases-loop-turns
-decreases-loop-turns l = l.turns

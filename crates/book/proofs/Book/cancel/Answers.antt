@@ -31,5 +31,5 @@ unfolding cancel_change cancel
 returns c =
     let a = c.args in
     answered (λ (r : Cancelled). r.book)
-    (change_told (cancel_refusals_in a.member) (λ o. cancel_refusals_of o a.member) (moved_by_wish a.member) (wishing a.member) refl a.self.ledger a.obligation _ c.cancel_change-change.ensures (told (goal.at.returns c).Start) c.answer_of.ensures c.result_of.ensures c.change.ensures)
+    (change_told (cancel_refusals_in a.member) (λ o. cancel_refusals_of o a.member) (moved_by_wish a.member) (wishing a.member) refl a.self.ledger a.obligation _ c.cancel_change-change.ensures (told (goal.at.returns c).Start) c.answer_of-answer.ensures c.result_of-moved.ensures c.change.ensures)
     (cancel_valid _ c.requires a.obligation a.member)

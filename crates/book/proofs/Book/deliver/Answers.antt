@@ -32,5 +32,5 @@ unfolding deliver_change deliver
 returns c =
     let a = c.args in
     answered (λ (r : Delivered). r.book)
-    (change_told (deliver_refusals_in a.quantity) (λ o. deliver_refusals_of (today_of a.self) o a.quantity) (λ o. cash_of o a.quantity) (moving part.Delivered a.quantity) refl a.self.ledger a.obligation _ c.deliver_change-change.ensures (told (goal.at.returns c).Start) c.answer_of.ensures c.result_of.ensures c.change.ensures)
+    (change_told (deliver_refusals_in a.quantity) (λ o. deliver_refusals_of (today_of a.self) o a.quantity) (λ o. cash_of o a.quantity) (moving part.Delivered a.quantity) refl a.self.ledger a.obligation _ c.deliver_change-change.ensures (told (goal.at.returns c).Start) c.answer_of-answer.ensures c.result_of-cash.ensures c.change.ensures)
     (deliver_valid _ c.requires a.obligation a.quantity)

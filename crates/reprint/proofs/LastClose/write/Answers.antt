@@ -31,7 +31,7 @@ loop-i-preserved c =
     let row : get_or c.listed-row-items.result.now i no_line ≡ get_or k.rows i no_line =
     ap (λ (rows : List KeptLine). get_or rows i no_line) c.listed-row-items.ensures ∙ get_or-take k.count k.rows i no_line more in
     wrote_more k.rows i c.args.lines.now _ _ (omega (arith, more, c.requires.0.size, c.requires.0.few)) c.loop-i.invariant
-    (c.put_line.ensures ∙ ap (λ (l : Line). sets c.loop-i.lines (words_in_line * i) (words_of l)) (c.line.ensures ∙ ap line_of row))
+    (c.put_line.ensures ∙ ap (λ (l : Line). sets c.loop-i.lines (words_in_line * i) (words_of l)) (c.from.ensures ∙ ap line_of row))
 
 pub returns : goal.returns
 returns c =
