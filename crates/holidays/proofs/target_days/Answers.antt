@@ -2,7 +2,8 @@
 use native.Mathlib.Omega.{arith}
 use mathlib.Core.Path.{sym, ◌∙◌}
 use lib.ListN.{length}
-use Rattle.holidays.proofs.Refused.{Given, target_given, some_reason, is_refused, is_done}
+use Rattle.basics.proofs.Reasons.{number_some}
+use Rattle.holidays.proofs.Refused.{Given, target_given, is_refused, is_done}
 use Rattle.holidays.proofs.target_days.Goals as goal
 use Rattle.holidays.proofs.target_days.Goals.{In_default}
 
@@ -11,10 +12,10 @@ given : (c : In_default) → let a = c.args in Given a.first a.last (length a.da
 given c = target_given _ _ _ (sym c.in_default.ensures)
 
 pub returns-in-Err-clause-value : goal.returns-in-Err-clause-value
-returns-in-Err-clause-value c = (is_refused _ _ _ _ (c.from.ensures ∙ c.in-Err.ensures) (some_reason _ _ c.from.ensures)).0
+returns-in-Err-clause-value c = (is_refused _ _ _ _ (c.from.ensures ∙ c.in-Err.ensures) (λ z. number_some _ (sym c.from.ensures ∙ z))).0
 
 pub returns-in-Err-clause-days_after : goal.returns-in-Err-clause-days_after
-returns-in-Err-clause-days_after c = (is_refused _ _ _ _ (c.from.ensures ∙ c.in-Err.ensures) (some_reason _ _ c.from.ensures)).1
+returns-in-Err-clause-days_after c = (is_refused _ _ _ _ (c.from.ensures ∙ c.in-Err.ensures) (λ z. number_some _ (sym c.from.ensures ∙ z))).1
 
 pub overflow_sub-years : goal.overflow_sub-years
 overflow_sub-years c = (given (goal.at.overflow_sub-years c).In_default).order
