@@ -6,6 +6,7 @@ pub mod Everywhere
 pub mod Fronts
 pub mod Places
 pub mod Positions
+pub mod Reasons
 pub mod Refusals
 pub mod Stores
 pub mod Sums

@@ -14,12 +14,8 @@ impl Book {
         ensures value { result ≡ rated self start rate }
         ensures valid { Valid result.book }
     {
-        let number = refusals::rate_answer(self.day.today, self.rates, start, rate);
-        if number != 0 {
-            return Done {
-                answer: number,
-                book: self,
-            };
+        if let Err(reason) = refusals::rate(self.day.today, &self.rates, start, rate) {
+            return Done::refused(self, reason);
         }
         self.rates.enter(RateRow {
             start: start.stored(),

@@ -5,9 +5,9 @@ ghost use Rattle.book.specs.Book.{Valid};
 ghost use Rattle.book.specs.Showing.{status, account, is_late, LooksAt, Looks};
 
 use crate::{Balance, Book, Looked, Shown};
+use basics::Reason;
 use calendar::Day;
 use ledger::{Fetched, NO_PARTS, Obligation};
-use netting::LAST_MEMBER;
 
 // Whether a member sells an obligation that is late: due before today, with something outstanding.
 #[tactic(auto, unfolding(crate::specs::Showing::is_late))]
@@ -26,7 +26,7 @@ impl Book {
     {
         let Fetched::Found(found) = self.ledger.fetch(obligation) else {
             return Shown {
-                answer: 13,
+                answer: u64::from(Reason::NotFound),
                 quantity: 0,
                 parts: NO_PARTS,
                 book: self,
@@ -46,9 +46,9 @@ impl Book {
         ensures value { result ≡ account self member }
         ensures valid { Valid result.book }
     {
-        if LAST_MEMBER < member {
+        if let Err(reason) = refusals::member_in(member) {
             return Balance {
-                answer: 1,
+                answer: u64::from(reason),
                 cents: 0,
                 book: self,
             };
@@ -83,9 +83,9 @@ impl Book {
         ensures looks { Looks self member result }
         ensures valid { Valid result.book }
     {
-        if LAST_MEMBER < member {
+        if let Err(reason) = refusals::member_in(member) {
             return Looked {
-                answer: 1,
+                answer: u64::from(reason),
                 obligation: 0,
                 book: self,
             };
@@ -93,7 +93,7 @@ impl Book {
         let obligation = self.late_of(member);
         Looked {
             answer: 0,
-            obligation: obligation,
+            obligation,
             book: self,
         }
     }

@@ -3,14 +3,16 @@
 #![tactic(auto)]
 
 ghost use Rattle.std.specs.Prelude.{◌≡◌, ◌+◌, ◌≤◌, ◌<◌};
+ghost use Rattle.basics.specs.Reasons.{answer_of};
 ghost use Rattle.amounts.specs.Amounts.{most_quantity, most_close_price};
 ghost use Rattle.ledger.specs.Setup.{ValidTerms};
 ghost use Rattle.ledger.specs.Parts.{moved, all_parts};
 ghost use Rattle.ledger.specs.Obligations.{new_obligation, settled, cash_of, moving, Sound, Takes};
 ghost use Rattle.ledger.specs.Obligations.{last_of, in_buy_in, is_due, sides_of, with_grace_price};
 ghost use Rattle.ledger.specs.Obligations.{is_party, has_wished, with_wish, both_wish, wishing, moved_by_wish};
-ghost use Rattle.ledger.specs.Ledger.{most_obligations, new_ledger, fetched, refused_change, changed, cleared_ledger};
+ghost use Rattle.ledger.specs.Ledger.{most_obligations, new_ledger, fetched, effect_of, changed, cleared_ledger};
 
+use basics::Reason;
 use calendar::{ClearingDays, ClosedDays, Day};
 use netting::MEMBER_COUNT;
 use offers::Offers;
@@ -116,11 +118,9 @@ pub enum Fetched {
     Absent,
 }
 
-// What a call comes to on the obligation that it names: its answer number, its result, and the obligation as it is
-// then. A refused call has the result 0, and its obligation is not used.
+// What a call that is done comes to on the obligation that it names: its result, and the obligation as it is then.
 #[derive(Clone, Copy)]
 pub struct Change {
-    pub answer: u64,
     pub result: u64,
     pub obligation: Obligation,
 }
@@ -355,16 +355,13 @@ impl Obligation {
     }
 }
 
-impl Change {
-    // What a call comes to that is refused by a number.
-    pub fn refused(number: u64) -> Change
-        ensures { result ≡ refused_change number }
-    {
-        Change {
-            answer: number,
-            result: 0,
-            obligation: NO_OBLIGATION,
-        }
+// The result of a call on an obligation; a refused call has the result 0.
+pub fn result_of(change: &Result<Change, Reason>) -> u64
+    ensures { result ≡ (effect_of change.now).result }
+{
+    match change {
+        Ok(done) => done.result,
+        Err(_) => 0,
     }
 }
 
@@ -394,12 +391,12 @@ impl Ledger {
     }
 
     // Puts the obligation that a call has changed under its number. A refused call changes nothing.
-    pub fn change(&mut self, number: u64, change: Change)
-        requires { change.answer ≡ 0 → number < most_obligations }
-        ensures { self.new ≡ changed number change self.old }
+    pub fn change(&mut self, number: u64, change: &Result<Change, Reason>)
+        requires { answer_of change.now ≡ 0 → number < most_obligations }
+        ensures { self.new ≡ changed number (effect_of change.now) self.old }
     {
-        if change.answer == 0 {
-            self.obligations[number as usize] = change.obligation;
+        if let Ok(done) = change {
+            self.obligations[number as usize] = done.obligation;
         }
     }
 

@@ -62,10 +62,14 @@ enter_refusals closed_days today legs new =
     ∷ refuse 12 (leb most_legs legs)
     ∷ []
 
--- ---- Cancel
+-- ---- Cancel, Account and Look
+-- A9, A15, A16 and R1, Refusals: the refusals of a call by the member that it names: all of Account and of Look
+abbrev pub member_refusals_in : ℕ → List Refusal
+member_refusals_in member = refuse 1 (no_member member) ∷ []
+
 -- A9 and R1, Refusals: the refusals of Cancel by what it is given
 abbrev pub cancel_refusals_in : ℕ → List Refusal
-cancel_refusals_in member = refuse 1 (no_member member) ∷ []
+cancel_refusals_in member = member_refusals_in member
 
 -- A9, R14 and R15, Refusals: the refusals of Cancel on the obligation that was found
 unfoldable pub cancel_refusals_of : Obligation → ℕ → List Refusal
@@ -96,12 +100,16 @@ offer_refusals_in supplier q price =
     ∷ refuse 3 (outside 1 most_offer_price price)
     ∷ []
 
+-- R16, Refusals: Offer is refused if the obligation, with its age, is not in its buy-in days
+abbrev pub not_in_buy_in : Terms → Day → ℕ → Obligation → Bool
+not_in_buy_in terms today age o = ltb today.0 o.deal.day.0 || not (in_buy_in terms.grace.0 (last_of terms o) age)
+
 -- A3, A11 and R15 to R18, Refusals: the refusals of Offer on the obligation that was found, with its age, in a book
 -- with this many offers
 unfoldable pub offer_refusals_of : Terms → Day → ℕ → ℕ → Obligation → ℕ → List Refusal
 offer_refusals_of terms today age offers o price =
     refuse 15 (eqb o.parts.outstanding 0)
-    ∷ refuse 16 (ltb today.0 o.deal.day.0 || not (in_buy_in terms.grace.0 (last_of terms o) age))
+    ∷ refuse 16 (not_in_buy_in terms today age o)
     ∷ refuse 17 (leb most_offers offers)
     ∷ refuse 18 (above_cap price o.stage.grace_price)
     ∷ []
