@@ -1,5 +1,6 @@
 -- What an Enter comes to: what the legs and the ledger require holds, and together they are what it returns.
 use Prim.Native.Nat.{ℕ}
+use Rattle.std.specs.Prelude.{Some, None}
 use mathlib.Core.Path.{◌≡◌, refl, ap}
 use mathlib.Core.Bool.{Bool, true, false}
 use lib.Dec.{eqb}
@@ -7,12 +8,10 @@ use borrow.Author.Tests.{eqb-true}
 use Rattle.basics.specs.Choice.{pick}
 use Rattle.basics.specs.Refusals.{outcome}
 use Rattle.instructions.specs.declared.Instruction.{Instruction}
-use Rattle.instructions.specs.declared.Fit.{Fit}
-use Rattle.instructions.specs.declared.Fit.TheVariants.{With, Nobody}
 use Rattle.instructions.specs.declared.Entry.{Entry}
 use Rattle.instructions.specs.declared.Entry.TheVariants.{Refused}
 use Rattle.instructions.specs.Legs.{leg_of}
-use Rattle.instructions.specs.Match.{lowest_fit}
+use Rattle.instructions.specs.Match.{Fit, lowest_fit}
 use Rattle.instructions.specs.Entry.{entry_by, entry_of, Enterable}
 use Rattle.book.specs.declared.Book.{Book}
 use Rattle.book.specs.Book.{Valid}
@@ -26,8 +25,8 @@ module _ (b : Book) (v : Valid b) (i : Instruction) (number : ℕ) (fine : numbe
     matchable : Matchable e b.ledger
 
   by_fit : Good b v (leg_of i) → (f : Fit) → lowest_fit b.legs (leg_of i) ≡ f → Places (entry_by (leg_of i) f)
-  by_fit g Nobody q = record { enterable = g.room; matchable = tt }
-  by_fit g (With k) q = let r = matched_room b v (leg_of i) k g q in record { enterable = (g.room, r.0); matchable = r }
+  by_fit g None q = record { enterable = g.room; matchable = tt }
+  by_fit g (Some k) q = let r = matched_room b v (leg_of i) k g q in record { enterable = (g.room, r.0); matchable = r }
 
   places : Places (entry_of b.legs number i)
   places = by (eqb number 0) refl
@@ -49,6 +48,6 @@ unfolding entered_alone entered_with
 entered_outcome b i number = by (eqb number 0) refl (lowest_fit b.legs (leg_of i))
   where
     by : (t : Bool) → eqb number 0 ≡ t → (f : Fit) → enter_returns b number (pick t (entry_by (leg_of i) f) Refused) ≡ pick t (entered_by b (leg_of i) f) (enter_refused b number)
-    by true e Nobody = ap (λ (n : ℕ). enter_returns b n (entry_by (leg_of i) Nobody)) (eqb-true number 0 e)
-    by true e (With k) = ap (λ (n : ℕ). enter_returns b n (entry_by (leg_of i) (With k))) (eqb-true number 0 e)
+    by true e None = ap (λ (n : ℕ). enter_returns b n (entry_by (leg_of i) None)) (eqb-true number 0 e)
+    by true e (Some k) = ap (λ (n : ℕ). enter_returns b n (entry_by (leg_of i) (Some k))) (eqb-true number 0 e)
     by false e f = refl

@@ -1,5 +1,6 @@
 -- Every call keeps a valid book valid.
 use Prim.Native.Nat.{ℕ, ◌+◌, ◌*◌, ◌≤◌, ◌<◌}
+use Rattle.std.specs.Prelude.{Some, None}
 use native.Mathlib.Omega.{arith}
 use mathlib.Core.Path.{◌≡◌, refl, sym, ap, ◌∙◌}
 use mathlib.Core.Bool.{Bool, true, false}
@@ -18,10 +19,8 @@ use Rattle.amounts.specs.Amounts.{most_quantity, most_amount}
 use Rattle.instructions.specs.declared.LegState.TheVariants.{Withdrawn, Matched}
 use Rattle.instructions.specs.declared.Leg.{Leg}
 use Rattle.instructions.specs.declared.Legs.{Legs}
-use Rattle.instructions.specs.declared.Fit.{Fit}
-use Rattle.instructions.specs.declared.Fit.TheVariants.{With, Nobody}
 use Rattle.instructions.specs.Legs.{is_waiting, in_state, leg_at, with_state, with_leg, waiting_one, waiting, SoundLeg, ValidLegs}
-use Rattle.instructions.specs.Match.{fits, lowest_fit}
+use Rattle.instructions.specs.Match.{Fit, fits, lowest_fit}
 use Rattle.instructions.proofs.Keeping.{waiting_with, valid_with, leg_sound, waiting_state, valid_state}
 use Rattle.instructions.proofs.Matching.{found_below, fits_all}
 use Rattle.ledger.specs.declared.Part.TheVariants.{Delivered}
@@ -226,14 +225,14 @@ module _ (b : Book) (v : Valid b) where
       with_legs_valid (with_leg new b.legs) a (omega (arith, v.room, one_most new))
 
   -- there is room for the obligation of a match
-  pub matched_room : (new : Leg) (k : ℕ) → Good new → lowest_fit b.legs new ≡ With k → (k < 128) × (b.ledger.count < 64)
+  pub matched_room : (new : Leg) (k : ℕ) → Good new → lowest_fit b.legs new ≡ Some k → (k < 128) × (b.ledger.count < 64)
   matched_room new k g e =
       let f = found_below b.legs new k e in
       let one = fits_waits (leg_at b.legs k) new f.1 in
       let w = waiting_state b.legs v.legs k f.0 Withdrawn in
       (omega (arith, f.0, g.room), omega (arith, v.room, g.room))
 
-  matched_valid : (new : Leg) (k : ℕ) → Good new → lowest_fit b.legs new ≡ With k → Valid (entered_with b new k).book
+  matched_valid : (new : Leg) (k : ℕ) → Good new → lowest_fit b.legs new ≡ Some k → Valid (entered_with b new k).book
   unfolding entered_with obligation_of
   matched_valid new k g e =
       let f = found_below b.legs new k e in
@@ -261,8 +260,8 @@ module _ (b : Book) (v : Valid b) where
       made o d = record { clears = rw d g.clears; young = λ q. omega (arith, fresh_age o (omega (arith, g.from_today, ap (λ (j : Day). j.0) d))) }
 
   entered_valid : (new : Leg) (r : Fit) → Good new → lowest_fit b.legs new ≡ r → Valid (entered_by b new r).book
-  entered_valid new Nobody g e = alone_valid new g
-  entered_valid new (With k) g e = matched_valid new k g e
+  entered_valid new None g e = alone_valid new g
+  entered_valid new (Some k) g e = matched_valid new k g e
 
   pub enter_valid : (member other side q a : ℕ) (j : Day) → Valid (enter b member other side q a j).book
   unfolding enter

@@ -1,6 +1,7 @@
 -- What holds of a refused call and of one that is done holds of its outcome. The calls here go by the answer of a fetch
 -- or by the next clearing day, and one that is done has found what it asked for.
 use Prim.Native.Nat.{ℕ, ◌≤◌, ◌<◌}
+use Rattle.std.specs.Prelude.{Some}
 use mathlib.Core.Path.{◌≡◌, refl, sym}
 use mathlib.Core.Bool.{false, false≢true}
 use mathlib.Core.List.{List}
@@ -11,7 +12,6 @@ use Rattle.basics.proofs.Refusals.{passed, by_number, by_number₂}
 use Rattle.calendar.specs.declared.Day.{Day}
 use Rattle.calendar.specs.declared.NextDay.{NextDay}
 use Rattle.calendar.specs.declared.NextDay.TheVariants.{At, Never}
-use Rattle.instructions.specs.declared.FetchedLeg.TheVariants.{Found}
 use Rattle.instructions.specs.Legs.{leg_at}
 use Rattle.instructions.proofs.Fetching.{fetched_leg_case}
 use Rattle.ledger.specs.Lines.{fewest_words}
@@ -69,7 +69,7 @@ module _ (b : Book) where
   withdraw_case P n member f g =
       fetched_leg_case (λ x. P (withdraw_by b n member x)) b.legs n
       (f _ (λ e. false≢true (sym (passed _ _ _ (passed 1 _ _ e refl).1 refl).0)))
-      (λ h. by_number P (answer (withdraw_refusals (Found (leg_at b.legs n)) member)) (withdraw_done b n) (done_refused b) (f _) (λ e. g h))
+      (λ h. by_number P (answer (withdraw_refusals (Some (leg_at b.legs n)) member)) (withdraw_done b n) (done_refused b) (f _) (λ e. g h))
 
   pub cancel_case : (P : Cancelled → Type 0) (n member : ℕ) → ((k : ℕ) → (k ≡ 0 → ⊥) → P (cancel_refused b k)) →
       (n < b.ledger.count → answer (cancel_refusals_of (obligation_at b.ledger n) member) ≡ 0 → P (cancel_done b n member (obligation_at b.ledger n))) →

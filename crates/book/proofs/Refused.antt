@@ -1,6 +1,7 @@
 -- Each call's refusals: it answers n exactly where n's condition holds and no smaller number's does (`refuses_by`), and
 -- is done exactly where no condition holds (`refuses_none`).
 use Prim.Native.Nat.{ℕ}
+use Rattle.std.specs.Prelude.{Option, Some, None}
 use mathlib.Core.Path.{◌≡◌, refl}
 use mathlib.Core.List.{List, [], ◌∷◌}
 use Rattle.basics.specs.Refusals.{refuse}
@@ -9,12 +10,8 @@ use Rattle.calendar.specs.declared.Day.{Day}
 use Rattle.calendar.specs.declared.NextDay.{NextDay}
 use Rattle.calendar.specs.declared.NextDay.TheVariants.{At, Never}
 use Rattle.instructions.specs.declared.Leg.{Leg}
-use Rattle.instructions.specs.declared.Fit.{Fit}
-use Rattle.instructions.specs.declared.Fit.TheVariants.{With, Nobody}
-use Rattle.instructions.specs.declared.FetchedLeg.{FetchedLeg}
-use Rattle.instructions.specs.declared.FetchedLeg.TheVariants.{Found, Absent}
 use Rattle.instructions.specs.Legs.{fetched_leg}
-use Rattle.instructions.specs.Match.{lowest_fit}
+use Rattle.instructions.specs.Match.{Fit, lowest_fit}
 use Rattle.ledger.specs.Ledger.{fetched}
 use Rattle.netting.specs.Accounts.{no_member}
 use Rattle.refusals.specs.Calls.{enter_refusals, cancel_refusals_in, cancel_refusals_of, deliver_refusals_in, deliver_refusals_of, offer_refusals_in, offer_refusals_of, rate_refusals, close_refusals_in, close_refusals, again_refusals}
@@ -48,8 +45,8 @@ module _ (b : Book) where
   -- an Enter that is done answers 0, matched or not
   pub entered_zero : (new : Leg) (r : Fit) → (entered_by b new r).answer ≡ 0
   unfolding entered_alone entered_with
-  entered_zero new Nobody = refl
-  entered_zero new (With k) = refl
+  entered_zero new None = refl
+  entered_zero new (Some k) = refl
 
   pub enter_refuses : (member other side q a : ℕ) (j : Day) →
       Refuses (enter_refusals b.setup.closed_days (today_of b) b.legs.count (new_leg member other side q a j)) (enter b member other side q a j).answer
@@ -63,9 +60,9 @@ module _ (b : Book) where
   unfolding withdraw withdraw_by withdraw_refusals
   withdraw_refuses leg member = by (fetched_leg b.legs leg)
     where
-      by : (f : FetchedLeg) → Refuses (withdraw_refusals f member) (withdraw_by b leg member f).answer
-      by Absent = record { printed = is_printed (withdraw_refusals Absent member) refl; given = refl }
-      by (Found l) = outcome_refuses (λ (r : Done). r.answer) (withdraw_refusals (Found l) member) _ (done_refused b) refl refl (λ n. refl)
+      by : (f : Option Leg) → Refuses (withdraw_refusals f member) (withdraw_by b leg member f).answer
+      by None = record { printed = is_printed (withdraw_refusals None member) refl; given = refl }
+      by (Some l) = outcome_refuses (λ (r : Done). r.answer) (withdraw_refusals (Some l) member) _ (done_refused b) refl refl (λ n. refl)
 
   pub cancel_refuses : (n member : ℕ) → Refuses (cancel_refusals b n member) (cancel b n member).answer
   unfolding cancel cancel_refusals cancel_refusals_of

@@ -1,18 +1,14 @@
 -- Instructions: the calls Enter, Withdraw, Cancel and Deliver.
-use Rattle.std.specs.Prelude.{ℕ, ◌<◌, true, not, List, [], ◌∷◌, eqb}
+use Rattle.std.specs.Prelude.{ℕ, ◌<◌, true, not, List, [], ◌∷◌, eqb, Option, Some, None}
 use Rattle.basics.specs.Refusals.{Refusal, refuse, answer, outcome}
 use Rattle.calendar.specs.declared.Day.{Day}
 use Rattle.instructions.specs.declared.Leg.{Leg}
 use Rattle.instructions.specs.declared.Legs.{Legs}
 use Rattle.instructions.specs.declared.LegState.TheVariants.{Withdrawn}
-use Rattle.instructions.specs.declared.Fit.{Fit}
-use Rattle.instructions.specs.declared.Fit.TheVariants.{With, Nobody}
 use Rattle.instructions.specs.declared.Entry.{Entry}
 use Rattle.instructions.specs.declared.Entry.TheVariants.{Refused, Alone, Matching}
-use Rattle.instructions.specs.declared.FetchedLeg.{FetchedLeg}
-use Rattle.instructions.specs.declared.FetchedLeg.TheVariants.{Found, Absent}
 use Rattle.instructions.specs.Legs.{most_legs, is_waiting, leg_of, leg_at, fetched_leg, with_state}
-use Rattle.instructions.specs.Match.{delivering, receiving, lowest_fit}
+use Rattle.instructions.specs.Match.{Fit, delivering, receiving, lowest_fit}
 use Rattle.instructions.specs.Entry.{with_entry, leg_number, obligation_number}
 use Rattle.ledger.specs.declared.Part.TheVariants as part
 use Rattle.ledger.specs.declared.Obligation.{Obligation}
@@ -83,8 +79,8 @@ entered_with b new k = enter_returns b 0 (Matching new k)
 
 -- E10, Enter: what an accepted Enter returns, by the search for the leg that the new one matches
 abbrev pub entered_by : Book → Leg → Fit → Entered
-entered_by b new Nobody = entered_alone b new
-entered_by b new (With k) = entered_with b new k
+entered_by b new None = entered_alone b new
+entered_by b new (Some k) = entered_with b new k
 
 -- A5, Refusals: what a refused Enter returns
 abbrev pub enter_refused : Book → ℕ → Entered
@@ -100,9 +96,9 @@ enter b member other side q a j =
 -- ---- Withdraw
 -- A8, R1, R13 and R14, Refusals: the refusals of Withdraw, by what was fetched. 13 holds if there is no such leg or it
 -- does not wait, and 14 if the leg is another member's.
-unfoldable pub withdraw_refusals : FetchedLeg → ℕ → List Refusal
-withdraw_refusals Absent member = refuse 1 (no_member member) ∷ refuse 13 true ∷ []
-withdraw_refusals (Found l) member =
+unfoldable pub withdraw_refusals : Option Leg → ℕ → List Refusal
+withdraw_refusals None member = refuse 1 (no_member member) ∷ refuse 13 true ∷ []
+withdraw_refusals (Some l) member =
     refuse 1 (no_member member)
     ∷ refuse 13 (not (is_waiting l.state))
     ∷ refuse 14 (not (eqb l.member member))
@@ -118,9 +114,9 @@ withdraw_done b n = record { answer = 0; book = with_legs (with_state n Withdraw
 
 -- T1 and T2, Withdraw: what Withdraw returns, by what was fetched. If the leg is absent, the call is refused. If it was
 -- found, the call is done or refused.
-unfoldable pub withdraw_by : Book → ℕ → ℕ → FetchedLeg → Done
-withdraw_by b n member Absent = done_refused b (answer (withdraw_refusals Absent member))
-withdraw_by b n member (Found l) = outcome (answer (withdraw_refusals (Found l) member)) (withdraw_done b n) (done_refused b)
+unfoldable pub withdraw_by : Book → ℕ → ℕ → Option Leg → Done
+withdraw_by b n member None = done_refused b (answer (withdraw_refusals None member))
+withdraw_by b n member (Some l) = outcome (answer (withdraw_refusals (Some l) member)) (withdraw_done b n) (done_refused b)
 
 -- T1 and T2, Withdraw: what Withdraw returns: its answer number, and the book
 unfoldable pub withdraw : Book → ℕ → ℕ → Done

@@ -10,7 +10,7 @@ ghost use Rattle.book.specs.Instructing.{withdraw_refusals, cancel_change, cance
 use crate::{Book, Cancelled, Delivered, Done, Entered};
 use amounts::MOST_QUANTITY;
 use calendar::Day;
-use instructions::{Entry, FetchedLeg, Instruction, Leg, LegState, Legs};
+use instructions::{Entry, Instruction, Leg, LegState, Legs};
 use ledger::{Change, Deal, Fetched, Ledger, Obligation, Part};
 use netting::LAST_MEMBER;
 
@@ -31,18 +31,17 @@ fn obligation_of(new: Leg, old: Leg) -> Obligation
 }
 
 // The answer number of a Withdraw of one of these legs.
-fn withdraw_answer(legs: Legs, leg: u64, member: u64) -> u64
-    requires { legs.count ≤ most_legs }
-    ensures { result ≡ answer (withdraw_refusals (fetched_leg legs leg) member) }
+fn withdraw_answer(legs: &Legs, leg: u64, member: u64) -> u64
+    requires { legs.now.count ≤ most_legs }
+    ensures { result ≡ answer (withdraw_refusals (fetched_leg legs.now leg) member) }
 {
     if LAST_MEMBER < member {
         return 1;
     }
-    let FetchedLeg::Found(found) = legs.fetch(leg) else {
+    let Some(found) = legs.fetch(leg) else {
         return 13;
     };
-    let state = found.state;
-    if !instructions::is_waiting(state) {
+    if !instructions::is_waiting(found.state) {
         return 13;
     }
     if found.member as u64 != member {
@@ -96,26 +95,18 @@ fn deliver_change(ledger: Ledger, obligation: u64, today: Day, quantity: u64) ->
 }
 
 // The ledger after an Enter. If the new leg matches one of these legs, it has one obligation more.
-fn with_match(mut ledger: Ledger, legs: Legs, entry: Entry) -> Ledger
-    requires { Matchable entry ledger }
-    ensures { result ≡ with_match legs entry ledger }
+fn with_match(ledger: &mut Ledger, legs: &Legs, entry: Entry)
+    requires { Matchable entry ledger.old }
+    ensures { ledger.new ≡ with_match legs.now entry ledger.old }
 {
-    let mut rows = ledger.obligations;
-    let mut count = ledger.count;
     match entry {
         Entry::Refused => {}
         Entry::Alone(_) => {}
         Entry::Matching(new, k) => {
-            let all = legs.rows;
-            let i = k as usize;
-            let old = all[i];
-            rows[count] = obligation_of(new, old);
-            count += 1;
+            ledger.obligations[ledger.count] = obligation_of(new, legs.rows[k]);
+            ledger.count += 1;
         }
     }
-    ledger.obligations = rows;
-    ledger.count = count;
-    ledger
 }
 
 impl Book {
@@ -141,17 +132,14 @@ impl Book {
             amount: amount,
             day: day,
         };
-        let legs = self.legs;
-        let ledger = self.ledger;
         let closed_days = self.setup.closed_days;
-        let number = refusals::enter_answer(closed_days, self.day.today, legs.count, asked);
-        let entry = legs.entry(number, asked);
-        let legs_before = legs.count as u64;
-        let obligations_before = ledger.count as u64;
-        let made = with_match(ledger, legs, entry);
-        let all = legs.enter(entry, obligations_before);
-        self.legs = all;
-        self.ledger = made;
+        let number =
+            refusals::enter_answer(closed_days, self.day.today, self.legs.count, asked);
+        let entry = self.legs.entry(number, asked);
+        let legs_before = self.legs.count as u64;
+        let obligations_before = self.ledger.count as u64;
+        with_match(&mut self.ledger, &self.legs, entry);
+        self.legs.enter(entry, obligations_before);
         Entered {
             answer: number,
             leg: entry.leg_number(legs_before),
@@ -166,12 +154,10 @@ impl Book {
         ensures value { result ≡ withdraw self leg member }
         ensures valid { Valid result.book }
     {
-        let mut legs = self.legs;
-        let number = withdraw_answer(legs, leg, member);
+        let number = withdraw_answer(&self.legs, leg, member);
         if number == 0 {
-            legs = legs.set_state(leg, LegState::Withdrawn);
+            self.legs.set_state(leg, LegState::Withdrawn);
         }
-        self.legs = legs;
         Done {
             answer: number,
             book: self,

@@ -1,40 +1,24 @@
 -- The lowest leg that fits: it fits, and none below it does.
-use Prim.Native.Nat.{ℕ, zero, suc, ◌+◌, ◌≤◌, ◌<◌}
+use Prim.Native.Nat.{ℕ, zero, suc, ◌+◌, ◌<◌}
+use Rattle.std.specs.Prelude.{cond, Some, None}
 use native.Mathlib.Nat.{zero-add}
-use native.Mathlib.Numerals.{add-one}
 use native.Mathlib.Omega.{arith}
 use mathlib.Core.Path.{◌≡◌, refl, sym, ap, ◌∙◌}
 use mathlib.Core.Bool.{Bool, true, false, not}
 use mathlib.Core.List.{List, [], ◌∷◌}
 use lib.Dec.{eqb}
-use lib.ListN.{length, get_or, drop, length-take, drop_of_length-le}
-use lib.Seq.{drop-cons, get_or-take}
+use lib.ListN.{length, get_or, length-take}
+use lib.Seq.{get_or-take}
 use borrow.Author.Tests.{eqb-true, not-true}
-use Rattle.basics.specs.Choice.{pick}
 use Rattle.basics.proofs.Cases.{and_true}
 use Rattle.amounts.specs.Amounts.{amounts_match}
 use Rattle.instructions.specs.declared.Leg.{Leg}
 use Rattle.instructions.specs.declared.Legs.{Legs}
-use Rattle.instructions.specs.declared.Fit.TheVariants.{With, Nobody}
-use Rattle.instructions.specs.Legs.{most_legs, is_waiting, no_leg, entered, leg_at}
+use Rattle.instructions.specs.Legs.{is_waiting, no_leg, entered, leg_at}
 use Rattle.instructions.specs.Match.{delivering, receiving, members_cross, same_business, fits, first_fit, lowest_fit}
 
--- ---- the search, leg by leg
-module _ (s : Legs) (new : Leg) (size : length s.rows ≡ most_legs) (few : s.count ≤ most_legs) where
-  -- the legs from leg i on
-  pub search_more : (i : ℕ) → i < s.count →
-      first_fit new i (drop i (entered s)) ≡ pick (fits (leg_at s i) new) (With i) (first_fit new (i + 1) (drop (i + 1) (entered s)))
-  unfolding first_fit
-  search_more i h =
-      let l : i < length (entered s) = omega (arith, length-take s.count s.rows) in
-      rw (drop-cons (entered s) i no_leg l, get_or-take s.count s.rows i no_leg h, add-one i)
-
-  pub search_end : (i : ℕ) → s.count ≤ i → first_fit new i (drop i (entered s)) ≡ Nobody
-  unfolding first_fit
-  search_end i h = rw (drop_of_length-le (entered s) {i = i} (omega (arith, length-take s.count s.rows)))
-
 -- ---- what was found
-never_both : {A : Type 0} {k : ℕ} → With k ≡ Nobody → A
+never_both : {A : Type 0} {k : ℕ} → Some k ≡ None → A
 never_both e = let z : ◌≡◌ {A = ℕ} 0 1 = cc in absurd (omega arith)
 
 pub record Lowest (new : Leg) (legs : List Leg) (from n : ℕ) : Type 0 where
@@ -44,12 +28,12 @@ pub record Lowest (new : Leg) (legs : List Leg) (from n : ℕ) : Type 0 where
   pub fitting : fits (get_or legs index no_leg) new ≡ true
   pub none_below : (j : ℕ) → j < index → fits (get_or legs j no_leg) new ≡ false
 
-found_from : (new : Leg) (k n : ℕ) (legs : List Leg) → first_fit new k legs ≡ With n → Lowest new legs k n
+found_from : (new : Leg) (k n : ℕ) (legs : List Leg) → first_fit new k legs ≡ Some n → Lowest new legs k n
 unfolding first_fit
 found_from new k n [] e = never_both (sym e)
 found_from new k n (l ∷ ls) e = by (fits l new) refl e (found_from new (k + 1) n ls)
   where
-    by : (t : Bool) → fits l new ≡ t → pick t (With k) (first_fit new (k + 1) ls) ≡ With n → (first_fit new (k + 1) ls ≡ With n → Lowest new ls (k + 1) n) → Lowest new (l ∷ ls) k n
+    by : (t : Bool) → fits l new ≡ t → cond t (Some k) (first_fit new (k + 1) ls) ≡ Some n → (first_fit new (k + 1) ls ≡ Some n → Lowest new ls (k + 1) n) → Lowest new (l ∷ ls) k n
     by true t r f =
         let same : k ≡ n = cc in
         record { index = 0; place = omega arith; within = omega arith; fitting = t; none_below = λ j h. absurd (omega arith) }
@@ -61,30 +45,30 @@ found_from new k n (l ∷ ls) e = by (fits l new) refl e (found_from new (k + 1)
         below t h zero q = t
         below t h (suc j) q = h j (omega arith)
 
-nobody_from : (new : Leg) (k : ℕ) (legs : List Leg) → first_fit new k legs ≡ Nobody → (j : ℕ) → j < length legs → fits (get_or legs j no_leg) new ≡ false
+nobody_from : (new : Leg) (k : ℕ) (legs : List Leg) → first_fit new k legs ≡ None → (j : ℕ) → j < length legs → fits (get_or legs j no_leg) new ≡ false
 unfolding first_fit
 nobody_from new k [] e j h = absurd (omega arith)
 nobody_from new k (l ∷ ls) e j h = by (fits l new) refl e (nobody_from new (k + 1) ls) j h
   where
-    by : (t : Bool) → fits l new ≡ t → pick t (With k) (first_fit new (k + 1) ls) ≡ Nobody →
-        (first_fit new (k + 1) ls ≡ Nobody → (j : ℕ) → j < length ls → fits (get_or ls j no_leg) new ≡ false) →
+    by : (t : Bool) → fits l new ≡ t → cond t (Some k) (first_fit new (k + 1) ls) ≡ None →
+        (first_fit new (k + 1) ls ≡ None → (j : ℕ) → j < length ls → fits (get_or ls j no_leg) new ≡ false) →
         (j : ℕ) → j < suc (length ls) → fits (get_or (l ∷ ls) j no_leg) new ≡ false
     by true t r f j h = never_both r
     by false t r f zero h = t
     by false t r f (suc j) h = f r j (omega arith)
 
 -- the leg found fits the new one, and none below it does
-pub lowest_fits : (s : Legs) (new : Leg) (n : ℕ) → lowest_fit s new ≡ With n → Lowest new (entered s) 0 n
+pub lowest_fits : (s : Legs) (new : Leg) (n : ℕ) → lowest_fit s new ≡ Some n → Lowest new (entered s) 0 n
 unfolding lowest_fit
 lowest_fits s new n e = found_from new 0 n (entered s) e
 
 -- where nobody is found, none fits
-pub nobody_fits : (s : Legs) (new : Leg) → lowest_fit s new ≡ Nobody → (j : ℕ) → j < length (entered s) → fits (get_or (entered s) j no_leg) new ≡ false
+pub nobody_fits : (s : Legs) (new : Leg) → lowest_fit s new ≡ None → (j : ℕ) → j < length (entered s) → fits (get_or (entered s) j no_leg) new ≡ false
 unfolding lowest_fit
 nobody_fits s new e = nobody_from new 0 (entered s) e
 
 -- a leg that was found stands among those entered
-pub found_below : (s : Legs) (new : Leg) (n : ℕ) → lowest_fit s new ≡ With n → (n < s.count) × (fits (leg_at s n) new ≡ true)
+pub found_below : (s : Legs) (new : Leg) (n : ℕ) → lowest_fit s new ≡ Some n → (n < s.count) × (fits (leg_at s n) new ≡ true)
 found_below s new n e =
     let f = lowest_fits s new n e in
     let p : n ≡ f.index = f.place ∙ zero-add f.index in

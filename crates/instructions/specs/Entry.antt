@@ -1,21 +1,19 @@
 -- Instructions: what an Enter comes to, and what it makes of the legs.
-use Rattle.std.specs.Prelude.{ℕ, ◌+◌, ◌<◌, eqb}
+use Rattle.std.specs.Prelude.{ℕ, ◌+◌, ◌<◌, eqb, Some, None}
 use Rattle.basics.specs.Choice.{pick}
 use Rattle.instructions.specs.declared.LegState.TheVariants.{Matched}
 use Rattle.instructions.specs.declared.Instruction.{Instruction}
 use Rattle.instructions.specs.declared.Leg.{Leg}
 use Rattle.instructions.specs.declared.Legs.{Legs}
-use Rattle.instructions.specs.declared.Fit.{Fit}
-use Rattle.instructions.specs.declared.Fit.TheVariants.{With, Nobody}
 use Rattle.instructions.specs.declared.Entry.{Entry}
 use Rattle.instructions.specs.declared.Entry.TheVariants.{Refused, Alone, Matching}
 use Rattle.instructions.specs.Legs.{most_legs, leg_of, in_state, with_state, with_leg}
-use Rattle.instructions.specs.Match.{lowest_fit}
+use Rattle.instructions.specs.Match.{Fit, lowest_fit}
 
 -- E10, Enter: what an accepted Enter comes to, by the search for the leg that the new one matches
 abbrev pub entry_by : Leg → Fit → Entry
-entry_by new Nobody = Alone new
-entry_by new (With k) = Matching new k
+entry_by new None = Alone new
+entry_by new (Some k) = Matching new k
 
 -- A5, Refusals; E5 and E10, Enter: what an Enter with this answer number comes to
 abbrev pub entry_of : Legs → ℕ → Instruction → Entry

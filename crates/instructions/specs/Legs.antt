@@ -1,5 +1,5 @@
 -- Instructions: the legs that members enter.
-use Rattle.std.specs.Prelude.{ℕ, ◌+◌, ◌≤◌, ◌≡◌, Bool, true, false, List, ltb, length, get_or, set, take, replicate}
+use Rattle.std.specs.Prelude.{ℕ, ◌+◌, ◌≤◌, ◌≡◌, Bool, true, false, List, ltb, length, get_or, set, take, replicate, Option, Some, None}
 use Rattle.basics.specs.Choice.{pick}
 use Rattle.basics.specs.Lists.{total, Every}
 use Rattle.calendar.specs.Closed.{day}
@@ -9,8 +9,6 @@ use Rattle.instructions.specs.declared.LegState.TheVariants.{Waiting, Withdrawn,
 use Rattle.instructions.specs.declared.Instruction.{Instruction}
 use Rattle.instructions.specs.declared.Leg.{Leg}
 use Rattle.instructions.specs.declared.Legs.{Legs}
-use Rattle.instructions.specs.declared.FetchedLeg.{FetchedLeg}
-use Rattle.instructions.specs.declared.FetchedLeg.TheVariants.{Found, Absent}
 
 -- E3, Enter: whether a leg waits; one that was withdrawn or matched does not
 abbrev pub is_waiting : LegState → Bool
@@ -71,8 +69,8 @@ abbrev pub leg_at : Legs → ℕ → Leg
 leg_at s n = get_or s.rows n no_leg
 
 -- R13, Refusals: Withdraw names a leg, fetches it by its number, and finds it if the number is below the count
-unfoldable pub fetched_leg : Legs → ℕ → FetchedLeg
-fetched_leg s n = pick (ltb n s.count) (Found (leg_at s n)) Absent
+unfoldable pub fetched_leg : Legs → ℕ → Option Leg
+fetched_leg s n = pick (ltb n s.count) (Some (leg_at s n)) None
 
 -- E10, Enter; T1, Withdraw: the leg with a number goes into another state
 abbrev pub with_state : ℕ → LegState → Legs → Legs

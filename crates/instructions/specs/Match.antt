@@ -1,11 +1,10 @@
 -- Instructions: which waiting leg a new one matches.
-use Rattle.std.specs.Prelude.{ℕ, ◌+◌, Bool, ◌&&◌, not, List, [], ◌∷◌, eqb}
+use Rattle.std.specs.Prelude.{ℕ, Bool, ◌&&◌, not, List, eqb, Option}
+use Rattle.std.specs.List.{position_from}
 use Rattle.basics.specs.Choice.{pick}
 use Rattle.amounts.specs.Amounts.{amounts_match}
 use Rattle.instructions.specs.declared.Leg.{Leg}
 use Rattle.instructions.specs.declared.Legs.{Legs}
-use Rattle.instructions.specs.declared.Fit.{Fit}
-use Rattle.instructions.specs.declared.Fit.TheVariants.{With, Nobody}
 use Rattle.instructions.specs.Legs.{is_waiting, entered}
 
 -- E1, Enter: the member delivers on side 0; of two legs, the one that delivers
@@ -32,10 +31,13 @@ fits l new =
     && (members_cross l new
     && (same_business l new && amounts_match (delivering new l).amount (receiving new l).amount)))
 
+-- E5, Enter: the number of the leg that a new one matches, if there is one
+abbrev pub Fit : Type 0
+Fit = Option ℕ
+
 -- the first of a list of legs that fits a new one, where the list begins with leg k
 unfoldable pub first_fit : Leg → ℕ → List Leg → Fit
-first_fit new k [] = Nobody
-first_fit new k (l ∷ ls) = pick (fits l new) (With k) (first_fit new (k + 1) ls)
+first_fit new k ls = position_from (λ l. fits l new) k ls
 
 -- E5, Enter: of the legs that fit, the one with the lowest number
 unfoldable pub lowest_fit : Legs → Leg → Fit

@@ -2,7 +2,7 @@
 #![tactic(auto)]
 
 ghost use Rattle.std.specs.Prelude.{◌≡◌, ◌≤◌, ◌<◌};
-ghost use Rattle.instructions.specs.Legs.{most_legs, is_waiting, leg_of, Fitting, no_legs, in_state, fetched_leg, with_state};
+ghost use Rattle.instructions.specs.Legs.{most_legs, is_waiting, leg_of, Fitting, no_legs, entered, in_state, fetched_leg, with_state, with_leg};
 ghost use Rattle.instructions.specs.Match.{delivering, receiving, members_cross, same_business, fits, lowest_fit};
 ghost use Rattle.instructions.specs.Entry.{entry_of, with_entry, Enterable, leg_number, obligation_number};
 
@@ -13,7 +13,7 @@ pub const MOST_LEGS: usize = 128;
 
 // What has become of a leg. A matched leg names its obligation. Withdrawn comes first, because a place that no leg has
 // taken holds it.
-#[derive(Clone, Copy)]
+#[derive(Clone, Copy, PartialEq, Eq)]
 pub enum LegState {
     Withdrawn,
     Waiting,
@@ -51,26 +51,12 @@ pub struct Legs {
     pub count: usize,
 }
 
-// The answer to a number that names a leg.
-#[derive(Clone, Copy)]
-pub enum FetchedLeg {
-    Found(Leg),
-    Absent,
-}
-
-// The leg that a new one matches, by its number, if there is one.
-#[derive(Clone, Copy)]
-pub enum Fit {
-    With(u64),
-    Nobody,
-}
-
 // What an Enter comes to: it is refused, its leg finds no match and waits, or its leg matches the leg with a number.
 #[derive(Clone, Copy)]
 pub enum Entry {
     Refused,
     Alone(Leg),
-    Matching(Leg, u64),
+    Matching(Leg, usize),
 }
 
 // A place that no leg has taken holds this leg. It is withdrawn, so that it matches nothing.
@@ -88,11 +74,7 @@ const NO_LEG: Leg = Leg {
 pub fn is_waiting(state: LegState) -> bool
     ensures { result ≡ is_waiting state }
 {
-    match state {
-        LegState::Withdrawn => false,
-        LegState::Waiting => true,
-        LegState::Matched(_) => false,
-    }
+    state == LegState::Waiting
 }
 
 impl Instruction {
@@ -101,10 +83,9 @@ impl Instruction {
         requires { Fitting self }
         ensures { result ≡ leg_of self }
     {
-        let day = self.day;
         Leg {
             amount: self.amount,
-            day: day,
+            day: self.day,
             quantity: self.quantity as u32,
             member: self.member as u8,
             other: self.other as u8,
@@ -148,8 +129,7 @@ impl Leg {
     pub fn fits_new(self, new: Leg) -> bool
         ensures { result ≡ fits self new }
     {
-        let state = self.state;
-        is_waiting(state)
+        is_waiting(self.state)
             && self.side != new.side
             && self.members_cross(new)
             && self.same_business(new)
@@ -160,16 +140,7 @@ impl Leg {
     pub fn in_state(self, state: LegState) -> Leg
         ensures { result ≡ in_state state self }
     {
-        let day = self.day;
-        Leg {
-            amount: self.amount,
-            day: day,
-            quantity: self.quantity,
-            member: self.member,
-            other: self.other,
-            side: self.side,
-            state: state,
-        }
+        Leg { state, ..self }
     }
 }
 
@@ -184,92 +155,78 @@ impl Legs {
         }
     }
 
+    // The legs entered so far.
+    pub fn listed(&self) -> &[Leg]
+        requires { self.now.count ≤ most_legs }
+        ensures { result.now ≡ entered self.now }
+    {
+        &self.rows[..self.count]
+    }
+
     // Finds the leg with a number.
     #[tactic(auto, unfolding(crate::specs::Legs::fetched_leg))]
-    pub fn fetch(self, number: u64) -> FetchedLeg
-        requires { self.count ≤ most_legs }
-        ensures { result ≡ fetched_leg self number }
+    pub fn fetch(&self, number: u64) -> Option<Leg>
+        requires { self.now.count ≤ most_legs }
+        ensures { result ≡ fetched_leg self.now number }
     {
-        let count = self.count;
-        let rows = self.rows;
-        if number < count as u64 {
-            let i = number as usize;
-            return FetchedLeg::Found(rows[i]);
-        }
-        FetchedLeg::Absent
+        self.listed().get(number as usize).copied()
     }
 
     // Puts the leg with a number into another state.
-    pub fn set_state(mut self, number: u64, state: LegState) -> Legs
+    pub fn set_state(&mut self, number: u64, state: LegState)
         requires { number < most_legs }
-        ensures { result ≡ with_state number state self }
+        ensures { self.new ≡ with_state number state self.old }
     {
-        let i = number as usize;
-        let mut rows = self.rows;
-        let leg = rows[i];
-        rows[i] = leg.in_state(state);
-        self.rows = rows;
-        self
+        self.rows[number as usize].state = state;
+    }
+
+    // Adds a leg, which gets the next number.
+    fn push(&mut self, new: Leg)
+        requires { self.old.count < most_legs }
+        ensures { self.new ≡ with_leg new self.old }
+    {
+        self.rows[self.count] = new;
+        self.count += 1;
     }
 
     // Finds the lowest leg that a new one matches.
-    pub fn lowest_fit(self, new: Leg) -> Fit
-        requires { self.count ≤ most_legs }
-        ensures { result ≡ lowest_fit self new }
+    #[tactic(auto, unfolding(crate::specs::Match::lowest_fit, crate::specs::Match::first_fit))]
+    pub fn lowest_fit(&self, new: Leg) -> Option<usize>
+        requires { self.now.count ≤ most_legs }
+        ensures { result ≡ lowest_fit self.now new }
     {
-        let count = self.count;
-        let rows = self.rows;
-        let mut i = 0;
-        while i < count {
-            let leg = rows[i];
-            if leg.fits_new(new) {
-                return Fit::With(i as u64);
-            }
-            i += 1;
-        }
-        Fit::Nobody
+        self.listed().iter().position(|leg| leg.fits_new(new))
     }
 
     // What an Enter with this answer number comes to.
-    pub fn entry(self, number: u64, asked: Instruction) -> Entry
-        requires { (self.count ≤ most_legs) × (number ≡ 0 → Fitting asked) }
-        ensures { result ≡ entry_of self number asked }
+    pub fn entry(&self, number: u64, asked: Instruction) -> Entry
+        requires { (self.now.count ≤ most_legs) × (number ≡ 0 → Fitting asked) }
+        ensures { result ≡ entry_of self.now number asked }
     {
         if number != 0 {
             return Entry::Refused;
         }
         let new = asked.leg();
         match self.lowest_fit(new) {
-            Fit::With(k) => Entry::Matching(new, k),
-            Fit::Nobody => Entry::Alone(new),
+            Some(k) => Entry::Matching(new, k),
+            None => Entry::Alone(new),
         }
     }
 
     // The legs after an Enter, whose obligation has this number if there is a match.
-    pub fn enter(mut self, entry: Entry, obligation: u64) -> Legs
-        requires { (Enterable entry self) × (obligation ≤ 255) }
-        ensures { result ≡ with_entry entry obligation self }
+    pub fn enter(&mut self, entry: Entry, obligation: u64)
+        requires { (Enterable entry self.old) × (obligation ≤ 255) }
+        ensures { self.new ≡ with_entry entry obligation self.old }
     {
-        let mut rows = self.rows;
-        let mut count = self.count;
         match entry {
             Entry::Refused => {}
-            Entry::Alone(new) => {
-                rows[count] = new;
-                count += 1;
-            }
+            Entry::Alone(new) => self.push(new),
             Entry::Matching(new, k) => {
                 let state = LegState::Matched(obligation as u8);
-                let i = k as usize;
-                let old = rows[i];
-                rows[i] = old.in_state(state);
-                rows[count] = new.in_state(state);
-                count += 1;
+                self.set_state(k as u64, state);
+                self.push(new.in_state(state));
             }
         }
-        self.rows = rows;
-        self.count = count;
-        self
     }
 }
 

@@ -1,5 +1,6 @@
 -- What every call does, done or refused.
 use Prim.Native.Nat.{ℕ, ◌+◌, ◌-◌, ◌≤◌, ◌<◌}
+use Rattle.std.specs.Prelude.{Some, None}
 use native.Mathlib.Omega.{arith}
 use mathlib.Core.Path.{◌≡◌, refl, sym, ap, ◌∙◌}
 use mathlib.Core.Bool.{Bool, true, false}
@@ -22,10 +23,8 @@ use Rattle.instructions.specs.declared.Leg.{Leg}
 use Rattle.instructions.specs.declared.Legs.{Legs}
 use Rattle.instructions.specs.declared.LegState.{LegState}
 use Rattle.instructions.specs.declared.LegState.TheVariants.{Waiting, Withdrawn, Matched}
-use Rattle.instructions.specs.declared.Fit.{Fit}
-use Rattle.instructions.specs.declared.Fit.TheVariants.{With, Nobody}
 use Rattle.instructions.specs.Legs.{no_leg, in_state, leg_at, entered, with_state}
-use Rattle.instructions.specs.Match.{delivering, lowest_fit, fits}
+use Rattle.instructions.specs.Match.{Fit, delivering, lowest_fit, fits}
 use Rattle.instructions.proofs.Keeping.{entered_with_lem, entered_state, valid_state}
 use Rattle.instructions.proofs.Matching.{found_below, fits_all}
 use Rattle.ledger.specs.declared.Part.{Part}
@@ -146,7 +145,7 @@ module _ (b : Book) (v : Valid b) where
   entered_does : (new : Leg) (r : Fit) → Good b v new → in_state Waiting new ≡ new → lowest_fit b.legs new ≡ r → Valid (entered_by b new r).book →
       Does b (entered_by b new r).book (only_legs (enters (entered_by b new r).leg (entered_by b new r).obligation new)) []
   unfolding entered_alone entered_with obligation_of lowest_fit
-  entered_does new Nobody g fresh e w =
+  entered_does new None g fresh e w =
       let nobody : (n : ℕ) → instructs n (enters b.legs.count 0 new) ≡ none = λ n. rw (ne_eqb 0 (n + 1) (λ z. absurd (omega arith))) in
       does_plain b _ (enters b.legs.count 0 new) [] [] (moves_nothing b _ (enters b.legs.count 0 new) [] w refl refl refl refl refl nobody) (record {
         close_since = refl;
@@ -158,7 +157,7 @@ module _ (b : Book) (v : Valid b) where
         amounts = λ k below above. absurd (omega arith);
         proper = (sym entered_length, fresh, rw e refl);
       }) (due_later new 0 g.from_today)
-  entered_does new (With k) g fresh e w =
+  entered_does new (Some k) g fresh e w =
       let n = b.ledger.count in
       let old = leg_at b.legs k in
       let f = found_below b.legs new k e in

@@ -1,5 +1,6 @@
 -- The legs by the events: which leg a number names, and whether it waits.
 use Prim.Native.Nat.{ℕ, zero, suc, ◌+◌, ◌-◌, ◌<◌}
+use Rattle.std.specs.Prelude.{Some, None}
 use native.Mathlib.Omega.{arith}
 use mathlib.Core.Path.{◌≡◌, refl, sym, ap, ◌∙◌}
 use mathlib.Core.Bool.{Bool, true, false, ◌&&◌, not}
@@ -13,10 +14,8 @@ use Rattle.basics.specs.Choice.{pick}
 use Rattle.instructions.specs.declared.Leg.{Leg}
 use Rattle.instructions.specs.declared.LegState.{LegState}
 use Rattle.instructions.specs.declared.LegState.TheVariants.{Waiting, Withdrawn, Matched}
-use Rattle.instructions.specs.declared.Fit.{Fit}
-use Rattle.instructions.specs.declared.Fit.TheVariants.{With, Nobody}
 use Rattle.instructions.specs.Legs.{is_waiting, no_leg, in_state}
-use Rattle.instructions.specs.Match.{first_fit}
+use Rattle.instructions.specs.Match.{Fit, first_fit}
 use Rattle.journal.specs.Sums.{or_else}
 use Rattle.journal.specs.Facts.{LegChange, enters, withdraws, neither}
 use Rattle.journal.specs.History.{leg_into_state, legs_with, legs_after, entered_as, is_fit, waits_after}
@@ -32,8 +31,8 @@ waits_of n ls = is_waiting (get_or ls n no_leg).state
 
 -- what an Enter's obligation says of the leg that fits
 abbrev pub Says : ℕ → ℕ → Fit → Type 0
-Says obligation count Nobody = obligation ≡ 0
-Says obligation count (With k) = (k < count) × (obligation ≡ 0 → ⊥)
+Says obligation count None = obligation ≡ 0
+Says obligation count (Some k) = (k < count) × (obligation ≡ 0 → ⊥)
 
 -- what a change says is so of these legs: an entered leg is numbered next, a withdrawn one is there
 abbrev pub Proper : LegChange → List Leg → Type 0
@@ -104,8 +103,8 @@ module _ (leg obligation : ℕ) (new : Leg) (ls : List Leg) (number : leg ≡ le
   -- an Enter, by the leg that fits
   with_leg_lem : (r : Fit) → Says obligation (length ls) r → (n : ℕ) →
       leg_of n (legs_with new obligation r ls) ≡ or_else (pick (eqb leg n) (some new) none) (leg_of n ls)
-  with_leg_lem Nobody s n = more_leg ls new n ∙ rw (number, fresh)
-  with_leg_lem (With k) s n =
+  with_leg_lem None s n = more_leg ls new n ∙ rw (number, fresh)
+  with_leg_lem (Some k) s n =
       let state = Matched (obligation - 1) in
       let size : length (leg_into_state k state ls) ≡ length ls = length-set ls k (in_state state (get_or ls k no_leg)) in
       more_leg (leg_into_state k state ls) (in_state state new) n
@@ -113,10 +112,10 @@ module _ (leg obligation : ℕ) (new : Leg) (ls : List Leg) (number : leg ≡ le
 
   with_waits : (r : Fit) → Says obligation (length ls) r → (n : ℕ) →
       waits_of n (legs_with new obligation r ls) ≡ pick (eqb leg n) (eqb obligation 0) (not (is_fit n r) && waits_of n ls)
-  with_waits Nobody s n =
+  with_waits None s n =
       let waits : is_waiting new.state ≡ true = ap (λ (l : Leg). is_waiting l.state) (sym fresh) in
       more_waits ls new n ∙ rw (number, s, waits)
-  with_waits (With k) s n =
+  with_waits (Some k) s n =
       let state = Matched (obligation - 1) in
       let size : length (leg_into_state k state ls) ≡ length ls = length-set ls k (in_state state (get_or ls k no_leg)) in
       more_waits (leg_into_state k state ls) (in_state state new) n

@@ -1,5 +1,5 @@
 -- What a book stores besides its obligations, told by the events alone. The latest event comes first.
-use Rattle.std.specs.Prelude.{ℕ, ◌+◌, ◌-◌, Bool, true, false, ◌&&◌, not, List, [], ◌∷◌, ◌++◌, eqb, get_or, set}
+use Rattle.std.specs.Prelude.{ℕ, ◌+◌, ◌-◌, Bool, true, false, ◌&&◌, not, List, [], ◌∷◌, ◌++◌, eqb, get_or, set, Some, None}
 use Rattle.std.proofs.Math.Option.{Option, none, some}
 use Rattle.basics.specs.Choice.{pick}
 use Rattle.offers.specs.declared.Offer.{Offer}
@@ -9,10 +9,8 @@ use Rattle.rates.specs.Force.{in_force}
 use Rattle.instructions.specs.declared.Leg.{Leg}
 use Rattle.instructions.specs.declared.LegState.{LegState}
 use Rattle.instructions.specs.declared.LegState.TheVariants.{Withdrawn, Matched}
-use Rattle.instructions.specs.declared.Fit.{Fit}
-use Rattle.instructions.specs.declared.Fit.TheVariants.{With, Nobody}
 use Rattle.instructions.specs.Legs.{no_leg, in_state}
-use Rattle.instructions.specs.Match.{delivering, first_fit}
+use Rattle.instructions.specs.Match.{Fit, delivering, first_fit}
 use Rattle.closing.specs.declared.Line.{Line}
 use Rattle.journal.specs.Calls.{Opening, Event}
 use Rattle.journal.specs.Facts.{LegChange, enters, withdraws, neither, is_end, reported, facts}
@@ -63,8 +61,8 @@ leg_into_state k state ls = set ls k (in_state state (get_or ls k no_leg))
 -- E10, Enter: the legs after an Enter that returned this number for its obligation. If no leg fits, the new one waits,
 -- and if one fits, both are matched to the obligation.
 abbrev pub legs_with : Leg → ℕ → Fit → List Leg → List Leg
-legs_with new obligation Nobody ls = ls ++ new ∷ []
-legs_with new obligation (With k) ls =
+legs_with new obligation None ls = ls ++ new ∷ []
+legs_with new obligation (Some k) ls =
     leg_into_state k (Matched (obligation - 1)) ls ++ in_state (Matched (obligation - 1)) new ∷ []
 
 -- E5, Enter; T1, Withdraw: what a change makes of the legs. A new leg matches the waiting leg with the lowest number
@@ -82,8 +80,8 @@ legs_in (e ∷ es) = legs_after (facts e).legs (legs_in es)
 -- E8, Enter: the amount of the delivering one of a new leg and the leg that it matches; a leg that matches none has its
 -- own
 abbrev pub amount_with : Leg → Fit → List Leg → ℕ
-amount_with new Nobody ls = new.amount
-amount_with new (With k) ls = (delivering new (get_or ls k no_leg)).amount
+amount_with new None ls = new.amount
+amount_with new (Some k) ls = (delivering new (get_or ls k no_leg)).amount
 
 -- E8, Enter: the amount of obligation n, if a change makes this obligation; these are the legs before the change
 abbrev pub amount_by : ℕ → LegChange → List Leg → Option ℕ
@@ -109,8 +107,8 @@ leg_in n (e ∷ es) = or_else (entered_as n (facts e).legs) (leg_in n es)
 
 -- whether leg n is the leg that fits
 abbrev pub is_fit : ℕ → Fit → Bool
-is_fit n Nobody = false
-is_fit n (With k) = eqb k n
+is_fit n None = false
+is_fit n (Some k) = eqb k n
 
 -- E10, Enter; T1, Withdraw: whether leg n waits after a change, if these are the legs before it and the last argument
 -- says whether leg n waited then. A leg that is entered waits unless its Enter returned an obligation. Any other leg

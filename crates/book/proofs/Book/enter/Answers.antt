@@ -15,21 +15,21 @@ use Rattle.book.proofs.Answers.{answered}
 use Rattle.book.proofs.Kept.{Good, good, enter_valid}
 use Rattle.book.proofs.Entering.{entry_enterable, entry_matchable, entered_outcome}
 use Rattle.book.proofs.Book.enter.Goals as goal
-use Rattle.book.proofs.Book.enter.Goals.{After-enter_answer-number, Start}
+use Rattle.book.proofs.Book.enter.Goals.{After-enter_answer-number}
 
 -- the instruction
-abbrev asked : Start → Instruction
-asked s = let a = s.args in
+abbrev asked : After-enter_answer-number → Instruction
+asked c = let a = c.args in
     record { member = a.member; other = a.other; side = a.side; quantity = a.quantity; amount = a.amount; day = a.day }
 
 -- an instruction that is not refused
-fine : (c : After-enter_answer-number) → c.enter_answer-number.result ≡ 0 → Good c.args.self c.requires (leg_of (asked c.before.before.before.before.before))
+fine : (c : After-enter_answer-number) → c.enter_answer-number.result ≡ 0 → Good c.args.self c.requires (leg_of (asked c))
 fine c z = good _ c.requires _ (sym c.enter_answer-number.ensures ∙ z)
 
 pub entry-entry-requires : goal.entry-entry-requires
 entry-entry-requires c = (
   c.requires.legs.few,
-  λ z. let g = fine c z in record {
+  λ z. let g = fine (goal.at.entry-entry-requires c).After-enter_answer-number z in record {
     member_fits = omega (arith, g.member_below);
     other_fits = omega (arith, g.other_below);
     side_fits = omega (arith, g.side_most);
@@ -37,28 +37,31 @@ entry-entry-requires c = (
   },
 )
 
-pub with_match-made-requires : goal.with_match-made-requires
-with_match-made-requires c =
-    subst⁻¹ (λ (e : Entry). Matchable e c.args.self.ledger) c.entry-entry.ensures (entry_matchable _ c.requires (asked c.before.before.before.before.before.before) _ (fine c.before))
+pub with_match-requires : goal.with_match-requires
+with_match-requires c =
+    let before = (goal.at.with_match-requires c).After-enter_answer-number in
+    subst⁻¹ (λ (e : Entry). Matchable e c.args.self.ledger) c.entry-entry.ensures (entry_matchable _ c.requires (asked before) _ (fine before))
 
-pub enter-all-requires : goal.enter-all-requires
-enter-all-requires c = (
-  subst⁻¹ (λ (e : Entry). Enterable e c.args.self.legs) c.entry-entry.ensures (entry_enterable _ c.requires (asked c.before.before.before.before.before.before.before) _ (fine c.before.before)),
-  omega (arith, c.requires.ledger.few),
-)
+pub enter-requires : goal.enter-requires
+enter-requires c =
+    let before = (goal.at.enter-requires c).After-enter_answer-number in
+    (
+      subst⁻¹ (λ (e : Entry). Enterable e c.args.self.legs) c.entry-entry.ensures (entry_enterable _ c.requires (asked before) _ (fine before)),
+      omega (arith, c.requires.ledger.few),
+    )
 
 pub returns : goal.returns
 unfolding enter
 returns c =
     let b = c.args.self in
-    let i = asked c.before.before.before.before.before.before.before.before.before.before in
+    let i = asked (goal.at.returns c).After-enter_answer-number in
     let e = c.entry-entry in
     let number = c.enter_answer-number.result in
     let same : ◌≡◌ {A = Entered} _ (enter_returns b number e.result) = λ j. record {
       answer = number;
       leg = c.leg_number.ensures j;
       obligation = c.obligation_number.ensures j;
-      book = with_legs (c.enter-all.ensures j) (with_ledger (c.with_match-made.ensures j) b);
+      book = with_legs (c.enter.ensures j) (with_ledger (c.with_match.ensures j) b);
     } in
     answered (λ (r : Entered). r.book)
     (same
