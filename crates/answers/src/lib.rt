@@ -16,6 +16,7 @@ pub const MOST_ANSWER: usize = 90_212;
 pub const MOST_SHOWN: usize = 7;
 
 // The numbers that an answer shows. Clauses see the list of them.
+#[derive(Drop)]
 pub struct Numbers {
     places: [u64; MOST_SHOWN],
     count: usize,
@@ -61,6 +62,7 @@ pub struct Reported {
 }
 
 // The answer to a line.
+#[derive(Drop)]
 pub enum Answer {
     // There is no answer, as to a comment.
     Nothing,

@@ -17,7 +17,7 @@ use Rattle.reading.specs.declared.Shape.{Shape}
 use Rattle.answers.specs.declared.Answer.{Answer}
 use Rattle.answers.specs.Text.{Tellable, answer_text}
 use Rattle.answers.specs.Told.{numbers_told}
-use Rattle.answers.proofs.Tells.{answer_most, numbers_tells}
+use Rattle.answers.proofs.Tells.{numbers_tells}
 use Rattle.journal.specs.Calls.{Call}
 use Rattle.journal.specs.Played.{outcome_of}
 use Rattle.settle.specs.declared.calls.Asked.{Asked}
@@ -33,7 +33,7 @@ use Rattle.settle.specs.Turns.{Buffers, Gives, Held, begins, Reached, most_turns
 use Rattle.settle.specs.Turns.Gives.{calling}
 use Rattle.settle.specs.Turns.Reached.{start, turn}
 use Rattle.settle.specs.Ending.{Plays}
-use Rattle.settle.proofs.Flows.{Kept, Ready}
+use Rattle.settle.proofs.Flows.{Kept}
 
 -- What holds between two turns, with at most `left` more to come. A number of turns led there. With those to come they
 -- are not more than the most turns of a run, and exactly as many while the run goes on. The book is valid, and all
@@ -48,13 +48,12 @@ pub record Stands (first : Held) (left : ℕ) (h : Held) : Type 0 where
   pub ordered : h.flow.feed.from ≤ h.flow.feed.to
   pub read : h.flow.feed.to ≤ length h.part
   pub held : h.flow.feed.held ≤ length h.line
-  pub within : h.flow.end ≤ length h.out
-  pub room : Buffers h.line h.numbers h.words h.out
+  pub room : Buffers h.line h.numbers h.words h.places
 
 -- this holds before the first turn
-pub standing : (part line numbers words out : List ℕ) → Valid at_first.book → Buffers line numbers words out
-    → Stands (begins part line numbers words out) most_turns (begins part line numbers words out)
-standing part line numbers words out v b = record {
+pub standing : (part line numbers words : List ℕ) (places : ℕ) → Valid at_first.book → Buffers line numbers words places
+    → Stands (begins part line numbers words places) most_turns (begins part line numbers words places)
+standing part line numbers words places v b = record {
   turns = 0;
   reached = start;
   few = omega arith;
@@ -64,7 +63,6 @@ standing part line numbers words out v b = record {
   ordered = omega arith;
   read = omega arith;
   held = omega arith;
-  within = omega arith;
   room = b;
 }
 
@@ -151,21 +149,20 @@ ticked Failed left turns more e = record {
 }
 
 -- what holds between two turns still holds after one more turn
-pub turned : {first h after : Held} {left : ℕ} {fed : Flow} {taken : Taken} {asked : Asked} (answer : Answer) → 0 < left → Stands first left h
-    → FedOn h.flow (length h.out) h.part after.part fed
-    → Kept h.flow after.part fed → Ready (length h.out) fed
+pub turned : {first h after : Held} {left : ℕ} {fed : Flow} {waiting : List ℕ} {taken : Taken} {asked : Asked} (answer : Answer) → 0 < left → Stands first left h
+    → FedOn h.flow h.places h.out h.part after.part fed waiting
+    → Kept h.flow after.part fed
     → TakenOn fed after.part h.line after.line taken
     → asked ≡ asks taken after.line h.numbers
     → after.numbers ≡ noted taken after.line h.numbers
     → Given h.book asked after.numbers h.words (record { book = after.book; answer = answer }) after.words
-    → ToldOn fed taken (answer_text answer taken.feed.ended after.words) h.out after.out after.flow
+    → ToldOn fed taken (answer_text answer taken.feed.ended after.words) h.places waiting after.out after.flow
     → length after.line ≡ length h.line
-    → length after.numbers ≡ length h.numbers → length after.out ≡ length h.out
+    → length after.numbers ≡ length h.numbers → after.places ≡ h.places
     → Stands first (turns_left after.flow.course left) after
-turned {first} {h} {after} {left} {fed} {taken} {asked} answer more s feeds on fit takes asking noting given tells line numbers out =
+turned {first} {h} {after} {left} {fed} {waiting} {taken} {asked} answer more s feeds on takes asking noting given tells line numbers same =
     let took = took_within takes in
     let next = tells.next in
-    let most = answer_most answer taken.feed.ended after.words given.tells in
     let tick = ticked after.flow.course left s.turns more (s.clock (s.goes more)) in
     record {
       turns = suc s.turns;
@@ -175,6 +172,7 @@ turned {first} {h} {after} {left} {fed} {taken} {asked} answer more s feeds on f
       reached = turn s.reached (record {
         going = s.goes more;
         fed = fed;
+        waiting = waiting;
         feeds = feeds;
         taken = taken;
         takes = takes;
@@ -184,16 +182,16 @@ turned {first} {h} {after} {left} {fed} {taken} {asked} answer more s feeds on f
         answer = answer;
         gives = given.gives;
         tells = tells;
+        same = same;
       });
       valid = given.valid;
       ordered = rw next took.ordered;
       read = rw next (omega (arith, took.read, on.within));
       held = rw next (omega (arith, took.held, line));
-      within = omega (arith, tells.wrote.place, most, fit.room, out);
       room = record {
         longer = omega (arith, s.room.longer, line);
         numbered = omega (arith, s.room.numbered, numbers);
         lendable = omega (arith, s.room.lendable, given.same);
-        writable = omega (arith, s.room.writable, out);
+        writable = omega (arith, s.room.writable, same);
       };
     }

@@ -15,6 +15,7 @@ use std::env::FillError;
 use std::io;
 use std::io::Stdout;
 use std::rt::Env;
+use writing::Output;
 
 mod calls;
 mod flow;
@@ -33,22 +34,21 @@ fn turns_left(turns: u64, course: Course) -> u64
 
 // Plays the journal. A proved loop has to end, but a journal may go on for ever. So the loop counts its turns down from
 // a number that no run uses up. A turn takes bytes of one line, and plays the line if it has ended. The calls are made
-// here and not in a function of their own, because the book would be copied once more on its way to that function. The
-// result is the number of bytes of the output that are still to be written. If the whole journal was played, they end
-// with the line `end`.
-fn settle_all(
+// here and not in a function of their own, because the book would be copied once more on its way to that function. What
+// is in the output in the end is still to be written. If the whole journal was played, it ends with the line `end`.
+fn settle_all<const N: usize>(
     streams: Streams,
     part: &mut [u8],
     line: &mut [u8],
     numbers: &mut [u64],
     words: &mut [u64],
-    out: &mut [u8],
-) -> usize
-    requires { Buffers line.old numbers.old words.old out.old }
-    ensures upper_bound { result ≤ length out.new }
-    ensures plays_in { PlaysIn (begins part.old line.old numbers.old words.old out.old)
-        part.new line.new numbers.new words.new out.new result }
+    out: &mut Output<N>,
+)
+    requires { Buffers line.old numbers.old words.old N }
+    ensures plays_in { PlaysIn (begins part.old line.old numbers.old words.old N)
+        part.new line.new numbers.new words.new N out.new }
 {
+    out.clear();
     let mut turns = u64::MAX;
     let mut flow = flow::start();
     let mut played = calls::before_all();
@@ -80,11 +80,11 @@ fn settle_all(
             Line::Comment => played.answer = Answer::nothing(),
             Line::NoCall => played.answer = Answer::no_call(),
         }
-        flow = flow::tell(fed, taken, played.answer, words, out);
+        flow = flow::tell(fed, taken, &played.answer, words, out);
         let course = flow.course;
         turns = turns_left(turns, course);
     }
-    flow::tell_last(flow, line, out)
+    flow::tell_last(flow, line, out);
 }
 
 // Places for the bytes of one read.
@@ -127,20 +127,14 @@ fn word_places() -> [u64; WORD_PLACES]
 // Places for the answers. There are more than the longest answer takes.
 const ANSWER_PLACES: usize = 131_072;
 
-fn answer_places() -> [u8; ANSWER_PLACES]
-    ensures { 131072 ≡ length result }
-{
-    [0; ANSWER_PLACES]
-}
-
 // Plays the journal, and writes what is left of the output.
 fn play(streams: Streams) {
     let mut part = read_places();
     let mut line = line_places();
     let mut numbers = number_places();
     let mut words = word_places();
-    let mut out = answer_places();
-    let end = settle_all(
+    let mut out: Output<ANSWER_PLACES> = Output::new();
+    settle_all(
         streams,
         &mut part,
         &mut line,
@@ -148,7 +142,7 @@ fn play(streams: Streams) {
         &mut words,
         &mut out,
     );
-    flow::write_out(streams, &out, end);
+    flow::write_out(streams, &out);
 }
 
 // Says where the journal is read from, where its format is described, what the program was proved with, and which

@@ -68,6 +68,7 @@ fn put_digits(places: &mut [u8; MOST_DIGITS], n: u64) -> usize
 }
 
 // The output: at most `N` bytes. Clauses see the bytes that were written so far.
+#[derive(Drop)]
 pub struct Output<const N: usize> {
     bytes: [u8; N],
     end: usize,
