@@ -12,7 +12,7 @@ use offers::Offer;
 
 // The answer number of an Offer for an obligation, in a book with this ledger, setup and day.
 fn offer_answer(
-    ledger: Ledger,
+    ledger: &Ledger,
     obligation: u64,
     setup: Setup,
     today: Day,
@@ -20,8 +20,8 @@ fn offer_answer(
     quantity: u64,
     price: u64,
 ) -> u64
-    requires { (ValidLedger ledger) × (ValidSetup setup) }
-    ensures { result ≡ offer_answer_by setup today ledger.offers.count supplier quantity price (fetched ledger obligation) }
+    requires { (ValidLedger ledger.now) × (ValidSetup setup) }
+    ensures { result ≡ offer_answer_by setup today ledger.now.offers.count supplier quantity price (fetched ledger.now obligation) }
 {
     let number = refusals::offer_answer_in(supplier, quantity, price);
     if number != 0 {
@@ -42,10 +42,8 @@ impl Book {
         ensures value { result ≡ offer self obligation supplier quantity price }
         ensures valid { Valid result.book }
     {
-        let mut ledger = self.ledger;
-        let mut held = ledger.offers;
         let number = offer_answer(
-            ledger,
+            &self.ledger,
             obligation,
             self.setup,
             self.day.today,
@@ -54,15 +52,13 @@ impl Book {
             price,
         );
         if number == 0 {
-            held = held.insert(Offer {
+            self.ledger.offers = self.ledger.offers.insert(Offer {
                 obligation: obligation as u16,
                 supplier: supplier as u16,
                 quantity: quantity as u32,
                 price: price as u32,
             });
         }
-        ledger.offers = held;
-        self.ledger = ledger;
         Done {
             answer: number,
             book: self,

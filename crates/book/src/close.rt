@@ -33,35 +33,29 @@ impl Book {
         if number != 0 {
             return self.leaves_open(number);
         }
-        let setup = self.setup;
-        let closed_days = setup.closed_days;
         let today = self.day.today;
-        let NextDay::At(next) = closed_days.next_after(today) else {
+        let NextDay::At(next) = self.setup.closed_days.next_after(today) else {
             return self.leaves_open(20);
         };
         let InForce::Since(row) = self.rates.in_force(today) else {
             return self.leaves_open(26);
         };
         let end = DayEnd {
-            setup: setup,
+            setup: self.setup,
             today: today,
             price: price,
             rate: row.rate as u64,
         };
-        let after = BookDay {
+        let count = closing::close(&mut self.ledger, &end, lines);
+        self.last = LastClose::of(lines, count);
+        self.day = BookDay {
             today: next,
             close_since: true,
             has_closed: true,
         };
-        let done = closing::close(self.ledger, end, lines);
-        let kept = LastClose::of(lines, done.count);
-        let ledger = done.ledger;
-        self.ledger = ledger;
-        self.last = kept;
-        self.day = after;
         Closed {
             answer: 0,
-            count: done.count,
+            count: count,
             book: self,
         }
     }

@@ -51,9 +51,9 @@ fn withdraw_answer(legs: &Legs, leg: u64, member: u64) -> u64
 }
 
 // What a Cancel comes to on the obligation that it names. Its result is the quantity that is cancelled.
-fn cancel_change(ledger: Ledger, obligation: u64, member: u64) -> Change
-    requires { ValidLedger ledger }
-    ensures { result ≡ cancel_change member (fetched ledger obligation) }
+fn cancel_change(ledger: &Ledger, obligation: u64, member: u64) -> Change
+    requires { ValidLedger ledger.now }
+    ensures { result ≡ cancel_change member (fetched ledger.now obligation) }
 {
     if LAST_MEMBER < member {
         return Change::refused(1);
@@ -73,9 +73,9 @@ fn cancel_change(ledger: Ledger, obligation: u64, member: u64) -> Change
 }
 
 // What a Deliver comes to on the obligation that it names. Its result is the cash.
-fn deliver_change(ledger: Ledger, obligation: u64, today: Day, quantity: u64) -> Change
-    requires { ValidLedger ledger }
-    ensures { result ≡ deliver_change today quantity (fetched ledger obligation) }
+fn deliver_change(ledger: &Ledger, obligation: u64, today: Day, quantity: u64) -> Change
+    requires { ValidLedger ledger.now }
+    ensures { result ≡ deliver_change today quantity (fetched ledger.now obligation) }
 {
     if basics::is_outside(1, MOST_QUANTITY, quantity) {
         return Change::refused(2);
@@ -170,10 +170,8 @@ impl Book {
         ensures value { result ≡ cancel self obligation member }
         ensures valid { Valid result.book }
     {
-        let ledger = self.ledger;
-        let change = cancel_change(ledger, obligation, member);
-        let after = ledger.change(obligation, change);
-        self.ledger = after;
+        let change = cancel_change(&self.ledger, obligation, member);
+        self.ledger.change(obligation, change);
         Cancelled {
             answer: change.answer,
             moved: change.result,
@@ -187,10 +185,8 @@ impl Book {
         ensures value { result ≡ deliver self obligation quantity }
         ensures valid { Valid result.book }
     {
-        let ledger = self.ledger;
-        let change = deliver_change(ledger, obligation, self.day.today, quantity);
-        let after = ledger.change(obligation, change);
-        self.ledger = after;
+        let change = deliver_change(&self.ledger, obligation, self.day.today, quantity);
+        self.ledger.change(obligation, change);
         Delivered {
             answer: change.answer,
             cash: change.result,

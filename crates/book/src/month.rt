@@ -15,12 +15,14 @@ impl Book {
         ensures valid { Valid result.book }
         ensures collected_stays { collected.exit.now ≡ collected.entry.now }
     {
-        let ledger = self.ledger;
-        let accounts = ledger.accounts;
-        let number = payments::settle_month(accounts, self.day.close_since, collected, payouts);
+        let number = payments::settle_month(
+            self.ledger.accounts,
+            self.day.close_since,
+            collected,
+            payouts,
+        );
         if number == 0 {
-            let after = ledger.clear();
-            self.ledger = after;
+            self.ledger.clear();
             self.day.close_since = false;
         }
         Done {

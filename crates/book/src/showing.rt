@@ -23,8 +23,7 @@ impl Book {
         ensures value { result ≡ status self obligation }
         ensures valid { Valid result.book }
     {
-        let ledger = self.ledger;
-        let Fetched::Found(found) = ledger.fetch(obligation) else {
+        let Fetched::Found(found) = self.ledger.fetch(obligation) else {
             return Shown {
                 answer: 13,
                 quantity: 0,
@@ -32,11 +31,10 @@ impl Book {
                 book: self,
             };
         };
-        let parts = found.parts;
         Shown {
             answer: 0,
             quantity: found.deal.quantity as u64,
-            parts: parts,
+            parts: found.parts,
             book: self,
         }
     }
@@ -54,38 +52,28 @@ impl Book {
                 book: self,
             };
         }
-        let ledger = self.ledger;
-        let accounts = ledger.accounts;
-        let i = member as usize;
-        let cents = accounts[i];
         Balance {
             answer: 0,
-            cents: cents,
+            cents: self.ledger.accounts[member as usize],
             book: self,
         }
     }
 
     // Looks for a late obligation that a member sells; the search stops at the first it meets.
-    fn late_of(self, member: u64) -> u64
-        requires { self.ledger.count ≤ most_obligations }
-        ensures { LooksAt self member result }
+    fn late_of(&self, member: u64) -> u64
+        requires { self.now.ledger.count ≤ most_obligations }
+        ensures { LooksAt self.now member result }
     {
-        let ledger = self.ledger;
-        let today = self.day.today;
-        let obligations = ledger.obligations;
-        let count = ledger.count;
         let mut i = 0;
-        let found = loop {
-            if count <= i {
+        loop {
+            if self.ledger.count <= i {
                 break 0;
             }
-            let o = obligations[i];
-            if is_late(today, member, o) {
+            if is_late(self.day.today, member, self.ledger.obligations[i]) {
                 break i as u64 + 1;
             }
             i += 1;
-        };
-        found
+        }
     }
 
     // Looks for a late obligation that a member sells.

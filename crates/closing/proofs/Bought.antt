@@ -5,12 +5,11 @@ use native.Mathlib.Numerals.{add-one}
 use mathlib.Core.Path.{◌≡◌, refl, sym, ap, ◌∙◌}
 use mathlib.Core.List.{List, [], ◌∷◌, ◌++◌}
 use lib.ListN.{length, get_or, take}
-use lib.Seq.{take-suc, take_all, length-take-le, get_or-take}
+use lib.Seq.{take-suc, length-take-le}
 use Rattle.basics.specs.Lists.{total}
 use Rattle.basics.proofs.Everywhere.{every_at}
 use Rattle.amounts.specs.Amounts.{most_offer_price}
 use Rattle.offers.specs.declared.Given.{Given}
-use Rattle.offers.specs.declared.BuyIn.{BuyIn}
 use Rattle.offers.specs.BuyIn.{units, nothing_given}
 use Rattle.ledger.specs.declared.Part.TheVariants.{BoughtIn}
 use Rattle.ledger.specs.declared.Obligation.{Obligation}
@@ -20,7 +19,7 @@ use Rattle.ledger.specs.Lines.{words_in_line}
 use Rattle.closing.specs.declared.Closing.{Closing}
 use Rattle.closing.specs.Lines.{Made, then, Room, Wrote}
 use Rattle.closing.specs.Stages.{bought_from, bought_all}
-use Rattle.closing.specs.Asked.{taken, Buys}
+use Rattle.closing.specs.Asked.{Buys}
 use Rattle.closing.proofs.Lines.{wrote_length}
 
 -- all that the offers give is bought in
@@ -65,42 +64,22 @@ bought_takes n gs k o z h s e =
       enough = omega arith;
     })
 
--- ---- a buy-in in its course: the first k of what the pass over the offers has found
-module _ (n : ℕ) (o : Obligation) (b : BuyIn) (h : Buys o b) where
-  abbrev so_far : ℕ → Made
-  so_far k = bought_all n (take k (taken b)) o
-
-  taken_length : length (taken b) ≡ b.count
-  taken_length = length-take-le b.count b.given (omega (arith, h.few, h.size))
-
-  taken_at : (k : ℕ) → k < b.count → get_or (taken b) k nothing_given ≡ get_or b.given k nothing_given
-  taken_at k l = get_or-take b.count b.given k nothing_given l
-
-  -- the same with one offer more
-  pub so_far_next : (k : ℕ) → k < b.count → so_far (k + 1) ≡ then (so_far k) (bought_from n (get_or b.given k nothing_given))
-  so_far_next k l = rw (← taken_at k l) (bought_next n (taken b) k o nothing_given (omega (arith, taken_length)))
-
+-- ---- a buy-in in its course: the first k offers have given
+module _ (n : ℕ) (o : Obligation) (gs : List Given) (h : Buys o gs) where
   -- the requirement of the next offer holds
-  pub so_far_takes : (k : ℕ) (r : Obligation) → k < b.count → r ≡ (so_far k).obligation →
-      (Takes r (get_or b.given k nothing_given).quantity) × ((get_or b.given k nothing_given).offer.price ≤ most_offer_price)
-  so_far_takes k r l e =
-      let t = bought_takes n (taken b) k o nothing_given (omega (arith, taken_length)) h.sound h.enough in
-      let p = every_at h.prices k nothing_given (omega (arith, taken_length)) in
-      rw (e, ← taken_at k l) (t, p)
+  pub next_takes : (k : ℕ) (r : Obligation) → k < length gs → r ≡ (bought_all n (take k gs) o).obligation →
+      (Takes r (get_or gs k nothing_given).quantity) × ((get_or gs k nothing_given).offer.price ≤ most_offer_price)
+  next_takes k r l e = rw e (bought_takes n gs k o nothing_given l h.sound h.enough, every_at h.prices k nothing_given l)
 
-  pub so_far_room : (k : ℕ) (count : ℕ) (r : Closing) (ws ws' : List ℕ) → k < b.count → Room count ws (bought_all n (taken b) o) →
-      Wrote count ws r ws' (so_far k) → words_in_line * (r.count + 1) ≤ length ws'
-  so_far_room k count r ws ws' l room w =
+  pub next_room : (k : ℕ) (count : ℕ) (r : Closing) (ws ws' : List ℕ) → k < length gs → Room count ws (bought_all n gs o) →
+      Wrote count ws r ws' (bought_all n (take k gs) o) → words_in_line * (r.count + 1) ≤ length ws'
+  next_room k count r ws ws' l room w =
       omega (
         arith,
         room,
         w.counted,
-        wrote_length count r ws ws' (so_far k) w,
-        bought_length n (taken b) o,
-        bought_length n (take k (taken b)) o,
-        taken_length,
-        length-take-le k (taken b) (omega (arith, taken_length)),
+        wrote_length count r ws ws' (bought_all n (take k gs) o) w,
+        bought_length n gs o,
+        bought_length n (take k gs) o,
+        length-take-le k gs (omega arith),
       )
-
-  pub so_far_all : so_far b.count ≡ bought_all n (taken b) o
-  so_far_all = ap (λ (gs : List Given). bought_all n gs o) (take_all b.count (taken b) (omega (arith, taken_length)))

@@ -6,7 +6,7 @@ use mathlib.Core.Path.{◌≡◌, refl, ap, ◌∙◌}
 use mathlib.Core.Bool.{Bool, true, false}
 use mathlib.Core.List.{List, ◌++◌}
 use lib.Dec.{eqb}
-use lib.ListN.{length, length-append}
+use lib.ListN.{length, take, length-append}
 use borrow.Author.Tests.{eqb-true, eq-eqb, ne_eqb}
 use Rattle.basics.proofs.Cases.{pick_case}
 use Rattle.amounts.specs.Amounts.{most_close_price}
@@ -17,7 +17,7 @@ use Rattle.offers.specs.declared.BuyIn.{BuyIn}
 use Rattle.offers.specs.Held.{listed_offers}
 use Rattle.offers.specs.BuyIn.{given, units, bought_with}
 use Rattle.offers.proofs.Giving.{given_units, given_keeps}
-use Rattle.offers.proofs.Results.{bought_given, bought_size, lines_most as offers_given_most}
+use Rattle.offers.proofs.Results.{bought_given}
 use Rattle.ledger.specs.declared.Terms.{Terms}
 use Rattle.ledger.specs.declared.Part.TheVariants.{BoughtIn, Compensated}
 use Rattle.ledger.specs.declared.Parts.{Parts}
@@ -30,7 +30,7 @@ use Rattle.closing.specs.declared.Measures.{Measures}
 use Rattle.closing.specs.Lines.{Made, nothing, then}
 use Rattle.closing.specs.Stages.{priced, penalty_on, measures_at, penalised, notice_at, bought_all, buy_in_at, compensated, compensated_at}
 use Rattle.closing.specs.Close.{course, stages, closed_one}
-use Rattle.closing.specs.Asked.{taken, Priced, Buys}
+use Rattle.closing.specs.Asked.{Priced, Buys}
 use Rattle.closing.proofs.Bought.{bought_obligation, bought_length}
 
 -- r is sound, and it is o at a later time
@@ -219,27 +219,16 @@ closed_most d offers n o h =
     (λ e. omega arith)
 
 -- ---- what a pass over the offers has found
-pub found_taken : (gs : List Given) (b : BuyIn) → b ≡ bought_with gs → taken b ≡ gs
-found_taken gs b e = ap taken e ∙ bought_given gs
+pub given_listed : (gs : List Given) (b : BuyIn) → b ≡ bought_with gs → take b.count b.given ≡ gs
+given_listed gs b e = ap (λ (x : BuyIn). take x.count x.given) e ∙ bought_given gs
 
-module _ (offers : Offers) (n : ℕ) (o : Obligation) (b : BuyIn) (e : b ≡ bought_with (given n o.parts.outstanding (listed_offers offers))) where
-  abbrev gs : List Given
-  gs = given n o.parts.outstanding (listed_offers offers)
-
-  pub found_buys : Sound o → Priced offers → Buys o b
-  found_buys s p =
-      let few : length gs ≤ 64 = omega (arith, offers_given_most n o.parts.outstanding offers, p.few) in
-      record {
-        sound = s;
-        size = rw e (bought_size gs few);
-        few = rw e few;
-        enough = rw (found_taken gs b e) (given_enough n (listed_offers offers) o);
-        prices = rw (found_taken gs b e) (given_keeps n o.parts.outstanding p.prices);
-      }
-
-  pub found_bought : bought_all n (taken b) o ≡ buy_in_at true (listed_offers offers) n o
-  unfolding buy_in_at
-  found_bought = rw (found_taken gs b e)
+-- all of it can be bought in
+pub given_buys : (offers : Offers) (n : ℕ) (o : Obligation) → Sound o → Priced offers → Buys o (given n o.parts.outstanding (listed_offers offers))
+given_buys offers n o s p = record {
+  sound = s;
+  enough = given_enough n (listed_offers offers) o;
+  prices = given_keeps n o.parts.outstanding p.prices;
+}
 
 -- ---- the last day
 compensated_none : (price n : ℕ) (o : Obligation) → (compensated price n o).obligation.parts.outstanding ≡ 0

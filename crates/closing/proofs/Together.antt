@@ -4,9 +4,10 @@ use Prim.Native.Nat.{ℕ, zero, suc, ◌+◌, ◌*◌, ◌≤◌, ◌<◌}
 use native.Mathlib.Omega.{arith}
 use native.Mathlib.Numerals.{add-one}
 use native.Mathlib.Nat.{zero-add}
-use mathlib.Core.Path.{◌≡◌, refl, sym, ap, ap₂, ◌∙◌}
+use mathlib.Core.Path.{◌≡◌, refl, sym, ap, subst, ◌∙◌}
 use mathlib.Core.Bool.{true, false}
 use mathlib.Core.List.{List, append-nil}
+use lib.IntN.{ℤ}
 use lib.ListN.{length, get_or, set, length-append, length-set}
 use lib.Seq.{sets, length-sets, get_or-set_other, set-get_or}
 use Rattle.basics.specs.Lists.{sum, table}
@@ -14,23 +15,26 @@ use Rattle.basics.proofs.Everywhere.{every_map}
 use Rattle.basics.proofs.Places.{set_case}
 use Rattle.basics.proofs.Stores.{sets_ahead}
 use Rattle.basics.proofs.TableSums.{sum_more}
+use Rattle.netting.specs.Accounts.{transferred, Transferable}
 use Rattle.offers.specs.declared.Offer.{Offer}
 use Rattle.offers.specs.declared.Offers.{Offers}
-use Rattle.offers.specs.Held.{most_offers, listed_offers}
+use Rattle.offers.specs.Held.{most_offers, no_offers, listed_offers}
 use Rattle.offers.specs.BuyIn.{given}
 use Rattle.offers.proofs.Results.{all_lines_most}
 use Rattle.ledger.specs.declared.Obligation.{Obligation}
 use Rattle.ledger.specs.declared.Ledger.{Ledger}
 use Rattle.ledger.specs.Setup.{ValidTerms}
-use Rattle.ledger.specs.Obligations.{no_obligation, age_by, is_due}
+use Rattle.ledger.specs.Obligations.{no_obligation, age_by, is_due, sides_of, Sound}
 use Rattle.ledger.specs.Lines.{words_in_line, most_lines}
 use Rattle.ledger.specs.Ledger.{most_obligations, obligation_at, SoundOffer}
 use Rattle.closing.specs.declared.DayEnd.{DayEnd}
 use Rattle.closing.specs.declared.Line.{Line}
 use Rattle.closing.specs.declared.Closing.{Closing}
 use Rattle.closing.specs.Lines.{flat, written, Room, Wrote}
-use Rattle.closing.specs.Close.{stages, closed_at, rows_up_to, lines_up_to}
+use Rattle.closing.specs.Stages.{penalty_on}
+use Rattle.closing.specs.Close.{stages, closed_at, rows_up_to, lines_up_to, accounts_up_to, closed_ledger, close_lines}
 use Rattle.closing.specs.Asked.{Closes, Closable, ClosedAs}
+use Rattle.closing.proofs.Fines.{fine_transferable, fined_due, fined_idle, bounded_up_to, accounts_length}
 use Rattle.closing.proofs.Lines.{flat_length, flat_stores}
 use Rattle.closing.proofs.Parts.{closed_most, due_stages, not_due_same}
 
@@ -87,84 +91,141 @@ module _ (d : DayEnd) (os : List Obligation) where
       apart : suc n ≤ k → k ≡ n → ⊥
       apart a b = omega arith
 
--- ---- a Close in its course: the first n obligations are done
-pub record Done (d : DayEnd) (offers : List Offer) (os : List Obligation) (n : ℕ) (next : List Obligation) (count : ℕ) (ws ws' : List ℕ) : Type 0 where
-  pub rows : next ≡ rows_up_to d offers os n
-  pub counted : count ≡ length (lines_up_to d offers os n)
-  pub words : ws' ≡ sets ws 0 (flat (lines_up_to d offers os n))
+-- ---- a Close in its course
+-- the ledger in which the first n obligations are closed, and their penalties moved
+abbrev ledger_up_to : DayEnd → Ledger → ℕ → Ledger
+ledger_up_to d l n = record {
+  obligations = rows_up_to d (listed_offers l.offers) l.obligations n;
+  count = l.count;
+  offers = l.offers;
+  accounts = accounts_up_to d l.obligations l.accounts n;
+}
 
-pub done_none : (d : DayEnd) (offers : List Offer) (os : List Obligation) (ws : List ℕ) → Done d offers os 0 os 0 ws ws
-unfolding rows_up_to lines_up_to flat
-done_none d offers os ws = record { rows = refl; counted = refl; words = refl }
+-- the first n obligations are done
+pub record Done (d : DayEnd) (l : Ledger) (n : ℕ) (next : Ledger) (count : ℕ) (ws ws' : List ℕ) : Type 0 where
+  pub ledger : next ≡ ledger_up_to d l n
+  pub counted : count ≡ length (lines_up_to d (listed_offers l.offers) l.obligations n)
+  pub words : ws' ≡ sets ws 0 (flat (lines_up_to d (listed_offers l.offers) l.obligations n))
 
-module _ (d : DayEnd) (offers : List Offer) (os : List Obligation) (n : ℕ) (next : List Obligation) (count : ℕ) (ws ws' : List ℕ) (s : Done d offers os n next count ws ws') where
+pub done_none : (d : DayEnd) (l : Ledger) (ws : List ℕ) → Done d l 0 l 0 ws ws
+unfolding rows_up_to accounts_up_to lines_up_to flat
+done_none d l ws = record { ledger = refl; counted = refl; words = refl }
+
+module _ (d : DayEnd) (l : Ledger) (n : ℕ) (next : Ledger) (count : ℕ) (ws ws' : List ℕ) (s : Done d l n next count ws ws') where
+  abbrev offers : List Offer
+  offers = listed_offers l.offers
+
+  abbrev o : Obligation
+  o = obligation_at l n
+
   abbrev ls : List Line
-  ls = lines_up_to d offers os n
+  ls = lines_up_to d offers l.obligations n
 
-  pub done_length : length ws' ≡ length ws
+  done_length : length ws' ≡ length ws
   done_length = ap (λ (l : List ℕ). length l) s.words ∙ length-sets ws 0 (flat ls)
 
-  pub done_one : (r : Closing) (ws'' : List ℕ) → Wrote count ws' r ws'' (closed_at d offers os n) →
-      Done d offers os (n + 1) (set next n r.obligation) r.count ws ws''
-  unfolding rows_up_to lines_up_to
-  done_one r ws'' w =
-      let ms : List Line = (closed_at d offers os n).lines in
+  -- the next obligation, which is still as it was
+  abbrev p : Obligation
+  p = obligation_at next n
+
+  p_same : p ≡ o
+  p_same = ap (λ (k : Ledger). obligation_at k n) s.ledger ∙ rows_behind d l.obligations offers n n (omega arith)
+
+  -- the offers are those of the day
+  offers_same : listed_offers next.offers ≡ offers
+  offers_same = ap (λ (k : Ledger). listed_offers k.offers) s.ledger
+
+  -- there are as many accounts as before
+  pub done_accounts : length next.accounts ≡ length l.accounts
+  done_accounts = ap (λ (k : Ledger). length k.accounts) s.ledger ∙ accounts_length d l.obligations l.accounts n
+
+  -- it is due, its penalty moved, and it was closed
+  pub done_due : is_due d.today p ≡ true → (accounts : List ℤ) → accounts ≡ transferred (sides_of p).debtor (sides_of p).creditor (penalty_on d p) next.accounts →
+      (r : Closing) (ws'' : List ℕ) → Wrote count ws' r ws'' (stages d (age_by d.setup d.today p) (listed_offers next.offers) n p) →
+      Done d l (n + 1) (record { obligations = set next.obligations n r.obligation; count = next.count; offers = next.offers; accounts = accounts }) r.count ws ws''
+  unfolding rows_up_to accounts_up_to lines_up_to
+  done_due f accounts b r ws'' w =
+      let e : is_due d.today o ≡ true = rw p_same at f in
+      let a : accounts ≡ transferred (sides_of o).debtor (sides_of o).creditor (penalty_on d o) next.accounts = rw p_same at b in
+      let v : Wrote count ws' r ws'' (closed_at d offers l.obligations n) = rw (due_stages d offers n o e) (rw (offers_same, p_same) at w) in
+      let ms : List Line = (closed_at d offers l.obligations n).lines in
       rw (add-one n) (record {
-        rows = ap₂ (λ (l : List Obligation) (o : Obligation). set l n o) s.rows w.made;
-        counted = omega (arith, w.counted, s.counted, length-append ls ms);
+        ledger = λ i. record {
+          obligations = set (s.ledger i).obligations n (v.made i);
+          count = (s.ledger i).count;
+          offers = (s.ledger i).offers;
+          accounts = (a ∙ ap (λ (k : Ledger). transferred (sides_of o).debtor (sides_of o).creditor (penalty_on d o) k.accounts) s.ledger ∙ sym (fined_due d o (ledger_up_to d l n).accounts e)) i;
+        };
+        counted = omega (arith, v.counted, s.counted, length-append ls ms);
         words =
-            w.words
+            v.words
             ∙ ap (λ (l : List ℕ). sets l (words_in_line * count) (flat ms)) s.words
             ∙ ap (λ (k : ℕ). sets (sets ws 0 (flat ls)) (words_in_line * k) (flat ms)) s.counted
             ∙ rw zero-add at (flat_stores ws 0 ls ms);
       })
 
-  -- the next obligation is due, and it was closed
-  pub done_due : is_due d.today (get_or os n no_obligation) ≡ true → (r : Closing) (ws'' : List ℕ) →
-      Wrote count ws' r ws'' (stages d (age_by d.setup d.today (get_or os n no_obligation)) offers n (get_or os n no_obligation)) →
-      Done d offers os (n + 1) (set next n r.obligation) r.count ws ws''
-  done_due e r ws'' w = done_one r ws'' (rw (due_stages d offers n (get_or os n no_obligation) e) w)
-
-  -- the next obligation is not due, so nothing is to be done
-  pub done_idle : is_due d.today (get_or os n no_obligation) ≡ false → Done d offers os (n + 1) next count ws ws'
-  unfolding rows_up_to lines_up_to
-  done_idle e =
-      let o = get_or os n no_obligation in
-      let rows = rows_up_to d offers os n in
+  -- it is not due, so nothing is to be done
+  pub done_idle : is_due d.today p ≡ false → Done d l (n + 1) next count ws ws'
+  unfolding rows_up_to accounts_up_to lines_up_to
+  done_idle f =
+      let e : is_due d.today o ≡ false = rw p_same at f in
+      let rows = rows_up_to d offers l.obligations n in
       let same = not_due_same d offers n o e in
+      let stay : rows ≡ set rows n o = sym (set-get_or rows n no_obligation) ∙ ap (set rows n) (rows_behind d l.obligations offers n n (omega arith)) in
+      let still : rows ≡ set rows n (closed_at d offers l.obligations n).obligation = rw same stay in
+      let accounts = sym (fined_idle d o (ledger_up_to d l n).accounts e) in
+      let after : ledger_up_to d l n ≡ ledger_up_to d l (suc n) = λ i. record { obligations = still i; count = l.count; offers = l.offers; accounts = accounts i } in
       rw (add-one n) (record {
-        rows = s.rows ∙ sym (set-get_or rows n no_obligation) ∙ ap (set rows n) (rows_behind d os offers n n (omega arith)) ∙ rw same refl;
+        ledger = s.ledger ∙ after;
         counted = rw (same, append-nil ls) s.counted;
         words = rw (same, append-nil ls) s.words;
       })
 
-  -- the lines are at the front, and the words after them are as they were
-  pub done_all : words_in_line * length ls ≤ length ws → ClosedAs (rows_up_to d offers os n) ls next count ws ws'
-  unfolding written
-  done_all h = record {
-    result = s.rows;
-    counted = s.counted;
-    words = s.words ∙ sets_ahead ws (flat ls) (omega (arith, flat_length ls));
-  }
+  -- what its penalty and its Close require, and the room for its lines
+  module _ (c : Closable d l ws) (h : n < l.count) where
+    pub done_sound : Sound p
+    done_sound = rw p_same (c.valid.sound n h)
 
--- the lines of the next obligation have room
-pub done_room : (d : DayEnd) (l : Ledger) (n count : ℕ) (next : List Obligation) (ws ws' : List ℕ) → Closable d l ws → n < l.count →
-    Done d (listed_offers l.offers) l.obligations n next count ws ws' → Room count ws' (closed_at d (listed_offers l.offers) l.obligations n)
-unfolding lines_up_to
-done_room d l n count next ws ws' c h s =
-    omega (
-      arith,
-      lines_most d l.obligations l.offers c.end.setup.terms c.valid.offers.few (suc n) (omega (arith, c.valid.few)),
-      length-append (lines_up_to d (listed_offers l.offers) l.obligations n) (closed_at d (listed_offers l.offers) l.obligations n).lines,
-      s.counted,
-      done_length d (listed_offers l.offers) l.obligations n next count ws ws' s,
-      c.long,
-    )
+    pub done_transferable : Transferable (sides_of p).debtor (sides_of p).creditor (penalty_on d p) next.accounts
+    done_transferable =
+        fine_transferable d p next.accounts c.end done_sound
+        (rw (ap (λ (k : Ledger). k.accounts) s.ledger) (bounded_up_to d l c.end c.valid n (omega arith) c.accounts_near))
 
--- the requirement of the next obligation's Close holds
-pub done_closes : (d : DayEnd) (l : Ledger) (n : ℕ) (ws : List ℕ) → Closable d l ws → n < l.count → Closes d l.offers (obligation_at l n)
-done_closes d l n ws c h = record {
-  sound = c.valid.sound n h;
-  end = c.end;
-  priced = record { few = c.valid.offers.few; prices = every_map (λ (x : Offer) (s : SoundOffer l.count x). s.price_most) c.valid.offers.sound };
-}
+    pub done_closes : Closes d next.offers p
+    done_closes = record {
+      sound = done_sound;
+      end = c.end;
+      priced = rw (ap (λ (k : Ledger). k.offers) s.ledger) (record { few = c.valid.offers.few; prices = every_map (λ (x : Offer) (s : SoundOffer l.count x). s.price_most) c.valid.offers.sound });
+    }
+
+    pub done_room : is_due d.today p ≡ true → Room count ws' (stages d (age_by d.setup d.today p) (listed_offers next.offers) n p)
+    unfolding lines_up_to
+    done_room f =
+        let e : is_due d.today o ≡ true = rw p_same at f in
+        rw (offers_same, p_same, ← due_stages d offers n o e)
+        (omega (
+          arith,
+          lines_most d l.obligations l.offers c.end.setup.terms c.valid.offers.few (suc n) (omega (arith, c.valid.few)),
+          length-append ls (closed_at d offers l.obligations n).lines,
+          s.counted,
+          done_length,
+          c.long,
+        ))
+
+-- the ledger with other offers
+abbrev with_offers : Offers → Ledger → Ledger
+with_offers offers l = record { obligations = l.obligations; count = l.count; offers = offers; accounts = l.accounts }
+
+-- After the last obligation the offers are removed. The lines are at the front, and the words after them are as they
+-- were.
+pub done_all : (d : DayEnd) (l next : Ledger) (n count : ℕ) (ws ws' : List ℕ) (none : Offers) → Closable d l ws → n ≡ l.count → Done d l n next count ws ws' → none ≡ no_offers →
+    ClosedAs (closed_ledger d l) (close_lines d l) (with_offers none next) count ws ws'
+unfolding written
+done_all d l next n count ws ws' none c all done e =
+    let s : Done d l l.count next count ws ws' = subst (λ (k : ℕ). Done d l k next count ws ws') all done in
+    let most = lines_most d l.obligations l.offers c.end.setup.terms c.valid.offers.few l.count c.valid.few in
+    record {
+      result = λ i. with_offers (e i) (s.ledger i);
+      counted = s.counted;
+      words = s.words ∙ sets_ahead ws (flat (close_lines d l)) (omega (arith, most, flat_length (close_lines d l), c.long));
+    }

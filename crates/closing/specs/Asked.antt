@@ -1,11 +1,10 @@
 -- What the functions of a Close require, and what they promise about a lent list.
-use Rattle.std.specs.Prelude.{ℕ, ◌-◌, ◌≤◌, ◌≡◌, List, ℤ, pos, nat_abs, length, get_or, take}
+use Rattle.std.specs.Prelude.{ℕ, ◌-◌, ◌≤◌, ◌≡◌, List, ℤ, pos, nat_abs, length, get_or}
 use Rattle.basics.specs.Lists.{Every}
 use Rattle.amounts.specs.Amounts.{most_close_price, most_offer_price, most_rate}
 use Rattle.netting.specs.Accounts.{most_account}
 use Rattle.offers.specs.declared.Offers.{Offers}
 use Rattle.offers.specs.declared.Given.{Given}
-use Rattle.offers.specs.declared.BuyIn.{BuyIn}
 use Rattle.offers.specs.Held.{most_offers, listed_offers}
 use Rattle.offers.specs.BuyIn.{units}
 use Rattle.ledger.specs.declared.Obligation.{Obligation}
@@ -18,22 +17,16 @@ use Rattle.closing.specs.declared.DayEnd.{DayEnd}
 use Rattle.closing.specs.declared.Line.{Line}
 use Rattle.closing.specs.Lines.{written}
 
--- what a pass over the offers has found, without the free places
-abbrev pub taken : BuyIn → List Given
-taken b = take b.count b.given
-
 -- the offers of a day: no more than a book can hold, and none above the highest price
 pub record Priced (offers : Offers) : Type 0 where
   pub few : offers.count ≤ most_offers
   pub prices : Every (λ x. x.price ≤ most_offer_price) (listed_offers offers)
 
--- what is required so that all that was found can be bought in
-pub record Buys (o : Obligation) (b : BuyIn) : Type 0 where
+-- what is required so that all that the offers give can be bought in
+pub record Buys (o : Obligation) (gs : List Given) : Type 0 where
   pub sound : Sound o
-  pub size : length b.given ≡ most_offers
-  pub few : b.count ≤ most_offers
-  pub enough : units (taken b) ≤ o.parts.outstanding
-  pub prices : Every (λ g. g.offer.price ≤ most_offer_price) (taken b)
+  pub enough : units gs ≤ o.parts.outstanding
+  pub prices : Every (λ g. g.offer.price ≤ most_offer_price) gs
 
 -- what holds of the end of every day: a valid setup, and a price and a rate within the limits
 pub record ValidEnd (d : DayEnd) : Type 0 where

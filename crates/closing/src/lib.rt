@@ -12,11 +12,11 @@ ghost use Rattle.closing.specs.Lines.{words_of, one, Wrote, Room};
 ghost use Rattle.closing.specs.Stages.{plain_line, priced, penalty_on, measures_at};
 ghost use Rattle.closing.specs.Stages.{penalised, notice_at, bought_from, bought_all, buy_in_at, compensated_at};
 ghost use Rattle.closing.specs.Close.{stages, closed_ledger, close_lines};
-ghost use Rattle.closing.specs.Asked.{taken, Priced, Buys, ValidEnd, Closes, Closable, ClosedAs};
+ghost use Rattle.closing.specs.Asked.{Priced, Buys, ValidEnd, Closes, Closable, ClosedAs};
 
 use calendar::{ClearingDays, Day};
 use ledger::{Ledger, Obligation, Part, Setup, Terms, WORDS_IN_LINE};
-use offers::{BuyIn, Given, Offers};
+use offers::{Given, Offers};
 
 // What a Close works with: the setup and the day of the book, the price that it was given, and the rate in force.
 #[derive(Clone, Copy)]
@@ -59,13 +59,6 @@ pub struct Line {
 #[derive(Clone, Copy)]
 pub struct Closing {
     pub obligation: Obligation,
-    pub count: usize,
-}
-
-// The ledger after a Close, and how many lines it reported.
-#[derive(Clone, Copy)]
-pub struct ClosedLedger {
-    pub ledger: Ledger,
     pub count: usize,
 }
 
@@ -179,32 +172,27 @@ fn buy_from(s: Closing, number: u64, from: Given, lines: &mut [u64]) -> Closing
 }
 
 // Buys in what each offer gives, in the order of the auction.
-fn buy_all(start: Closing, number: u64, bought: BuyIn, lines: &mut [u64]) -> Closing
-    requires buys { Buys start.obligation bought }
-    requires room { Room start.count lines.old (bought_all number (taken bought) start.obligation) }
-    ensures { Wrote start.count lines.old result lines.new (bought_all number (taken bought) start.obligation) }
+fn buy_all(start: Closing, number: u64, given: &[Given], lines: &mut [u64]) -> Closing
+    requires buys { Buys start.obligation given.now }
+    requires room { Room start.count lines.old (bought_all number given.now start.obligation) }
+    ensures { Wrote start.count lines.old result lines.new (bought_all number given.now start.obligation) }
 {
-    let given = bought.given;
-    let n = bought.count;
     let mut s = start;
-    let mut k = 0;
-    while k < n {
-        let from = given[k];
-        s = buy_from(s, number, from, lines);
-        k += 1;
+    for from in given {
+        s = buy_from(s, number, *from, lines);
     }
     s
 }
 
 // Makes the buy-in, if there is to be one.
-fn buy_in(s: Closing, number: u64, comes: bool, offers: Offers, lines: &mut [u64]) -> Closing
-    requires sound { (Sound s.obligation) × (Priced offers) }
-    requires room { Room s.count lines.old (buy_in_at comes (listed_offers offers) number s.obligation) }
-    ensures { Wrote s.count lines.old result lines.new (buy_in_at comes (listed_offers offers) number s.obligation) }
+fn buy_in(s: Closing, number: u64, comes: bool, offers: &Offers, lines: &mut [u64]) -> Closing
+    requires sound { (Sound s.obligation) × (Priced offers.now) }
+    requires room { Room s.count lines.old (buy_in_at comes (listed_offers offers.now) number s.obligation) }
+    ensures { Wrote s.count lines.old result lines.new (buy_in_at comes (listed_offers offers.now) number s.obligation) }
 {
     if comes {
         let bought = offers.buy_in(number, s.obligation.parts.outstanding as u64);
-        return buy_all(s, number, bought, lines);
+        return buy_all(s, number, &bought.given[..bought.count], lines);
     }
     s
 }
@@ -231,9 +219,9 @@ fn compensate(s: Closing, number: u64, comes: bool, price: u64, lines: &mut [u64
 
 impl DayEnd {
     // The penalty of an obligation at this end of a day.
-    fn penalty_on(self, o: Obligation) -> u64
-        requires { (Sound o) × (ValidEnd self) }
-        ensures { result ≡ penalty_on self o }
+    fn penalty_on(&self, o: Obligation) -> u64
+        requires { (Sound o) × (ValidEnd self.now) }
+        ensures { result ≡ penalty_on self.now o }
     {
         amounts::penalty_of(o.parts.outstanding as u64, self.price, self.rate)
     }
@@ -244,19 +232,18 @@ fn close_due(
     o: Obligation,
     number: u64,
     cents: u64,
-    day: DayEnd,
-    offers: Offers,
+    day: &DayEnd,
+    offers: &Offers,
     count: usize,
     lines: &mut [u64],
 ) -> Closing
-    requires closes { (Closes day offers o) × (cents ≡ penalty_on day o) }
-    requires room { Room count lines.old (stages day (age_by day.setup day.today o) (listed_offers offers) number o) }
-    ensures { Wrote count lines.old result lines.new (stages day (age_by day.setup day.today o) (listed_offers offers) number o) }
+    requires closes { (Closes day.now offers.now o) × (cents ≡ penalty_on day.now o) }
+    requires room { Room count lines.old (stages day.now (age_by day.now.setup day.now.today o) (listed_offers offers.now) number o) }
+    ensures { Wrote count lines.old result lines.new (stages day.now (age_by day.now.setup day.now.today o) (listed_offers offers.now) number o) }
 {
     let terms = day.setup.terms;
     let price = day.price;
-    let closed_days = day.setup.closed_days;
-    let age = closed_days.age_at(o.deal.day, day.today);
+    let age = day.setup.closed_days.age_at(o.deal.day, day.today);
     let measures = measures_at(terms, age, o);
     let start = Closing {
         obligation: keep_price(o, terms, age, price),
@@ -269,42 +256,28 @@ fn close_due(
 }
 
 // Closes a ledger: it closes each obligation that is due, in rising number, and moves its penalty between the accounts.
-// Then it removes the offers. A row is read just before it is stored, so that one array of rows is enough.
-pub fn close(l: Ledger, day: DayEnd, lines: &mut [u64]) -> ClosedLedger
-    requires { Closable day l lines.old }
-    ensures { ClosedAs (closed_ledger day l) (close_lines day l) result.ledger result.count lines.old lines.new }
+// Then it removes the offers. It returns how many lines it reported.
+pub fn close(ledger: &mut Ledger, day: &DayEnd, lines: &mut [u64]) -> usize
+    requires { Closable day.now ledger.old lines.old }
+    ensures { ClosedAs (closed_ledger day.now ledger.old) (close_lines day.now ledger.old) ledger.new result lines.old lines.new }
 {
-    let offers = l.offers;
-    let n = l.count;
-    let mut rows = l.obligations;
-    let mut accounts = l.accounts;
     let mut count = 0;
-    let mut i = 0;
-    while i < n {
-        let o = rows[i];
+    for i in 0..ledger.count {
+        let o = ledger.obligations[i];
         if o.is_due(day.today) {
             let cents = day.penalty_on(o);
             let sides = o.penalty_sides();
             netting::transfer(
-                &mut accounts,
+                &mut ledger.accounts,
                 sides.debtor as usize,
                 sides.creditor as usize,
                 cents,
             );
-            let closed = close_due(o, i as u64, cents, day, offers, count, lines);
-            let row = closed.obligation;
-            rows[i] = row;
+            let closed = close_due(o, i as u64, cents, day, &ledger.offers, count, lines);
+            ledger.obligations[i] = closed.obligation;
             count = closed.count;
         }
-        i += 1;
     }
-    let none = Offers::none();
-    let mut next = l;
-    next.obligations = rows;
-    next.offers = none;
-    next.accounts = accounts;
-    ClosedLedger {
-        ledger: next,
-        count: count,
-    }
+    ledger.offers = Offers::none();
+    count
 }

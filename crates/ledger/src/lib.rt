@@ -380,40 +380,30 @@ impl Ledger {
 
     // Finds the obligation with a number.
     #[tactic(auto, unfolding(crate::specs::Ledger::fetched))]
-    pub fn fetch(self, number: u64) -> Fetched
-        requires { self.count ≤ most_obligations }
-        ensures { result ≡ fetched self number }
+    pub fn fetch(&self, number: u64) -> Fetched
+        requires { self.now.count ≤ most_obligations }
+        ensures { result ≡ fetched self.now number }
     {
-        let count = self.count;
-        let rows = self.obligations;
-        if number < count as u64 {
-            let i = number as usize;
-            return Fetched::Found(rows[i]);
+        if number < self.count as u64 {
+            return Fetched::Found(self.obligations[number as usize]);
         }
         Fetched::Absent
     }
 
     // Puts the obligation that a call has changed under its number. A refused call changes nothing.
-    pub fn change(mut self, number: u64, change: Change) -> Ledger
+    pub fn change(&mut self, number: u64, change: Change)
         requires { change.answer ≡ 0 → number < most_obligations }
-        ensures { result ≡ changed number change self }
+        ensures { self.new ≡ changed number change self.old }
     {
-        let mut rows = self.obligations;
         if change.answer == 0 {
-            let i = number as usize;
-            let next = change.obligation;
-            rows[i] = next;
+            self.obligations[number as usize] = change.obligation;
         }
-        self.obligations = rows;
-        self
     }
 
     // Sets all accounts to zero.
-    pub fn clear(mut self) -> Ledger
-        ensures { result ≡ cleared_ledger self }
+    pub fn clear(&mut self)
+        ensures { self.new ≡ cleared_ledger self.old }
     {
-        let zeros = [0i64; MEMBER_COUNT];
-        self.accounts = zeros;
-        self
+        self.accounts = [0i64; MEMBER_COUNT];
     }
 }

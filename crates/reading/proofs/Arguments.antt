@@ -4,7 +4,7 @@ use native.Mathlib.Omega.{arith}
 use mathlib.Core.Path.{◌≡◌, refl, sym, subst, ap, ◌∙◌}
 use mathlib.Core.Bool.{Bool, true, false}
 use mathlib.Core.List.{List, [], ◌∷◌}
-use mathlib.Core.Option.{Option, none, some}
+use Rattle.std.specs.Prelude.{Option, None, Some}
 use lib.Dec.{eqb, leb, ltb}
 use lib.ListN.{length, get_or, take}
 use lib.Seq.{sets, length-sets, get_or-take, length-take-le}
@@ -47,9 +47,9 @@ meaning_call line name shape ns e =
         × (fixed_by shape ≤ 6)
     by true u o n p f g = absurd (let z : ◌≡◌ {A = ℕ} 0 1 = cc in omega arith)
     by false true o n p f g = absurd (let z : ◌≡◌ {A = ℕ} 0 1 = cc in omega arith)
-    by false false none n p f g = absurd (let z : ◌≡◌ {A = ℕ} 0 1 = cc in omega arith)
-    by false false (some x) n none f g = absurd (let z : ◌≡◌ {A = ℕ} 0 1 = cc in omega arith)
-    by false false (some x) n (some ms) f g =
+    by false false None n p f g = absurd (let z : ◌≡◌ {A = ℕ} 0 1 = cc in omega arith)
+    by false false (Some x) n None f g = absurd (let z : ◌≡◌ {A = ℕ} 0 1 = cc in omega arith)
+    by false false (Some x) n (Some ms) f g =
         shaped x ms (shape_right x.shape ms) refl (ahead_all (further_words line) ms f) (named_usable (first_word line) x n).few g
 
 shape_within : (shape : Shape) (ns : List ℕ) → fixed_by shape ≤ 6 → shape_right shape ns ≡ true → length ns ≤ most_numbers

@@ -3,7 +3,7 @@ use Prim.Native.Nat.{◌^◌, ◌-◌}
 use mathlib.Core.Path.{◌≡◌, refl}
 use mathlib.Core.Bool.{true, false}
 use mathlib.Core.List.{[], ◌∷◌}
-use mathlib.Core.Option.{none, some}
+use Rattle.std.specs.Prelude.{None, Some}
 use lib.IntN.{negsuc}
 use Rattle.basics.specs.Lists.{up_to}
 use Rattle.writing.specs.Digits.{digits_within, digits_of, signed_of}
@@ -16,22 +16,22 @@ use Rattle.reading.specs.declared.Name.{Name}
 use Rattle.reading.specs.declared.Shape.{Shape}
 
 -- 007 is 7
-zeros_in_front : number_of (48 ∷ 48 ∷ 55 ∷ []) ≡ some 7
+zeros_in_front : number_of (48 ∷ 48 ∷ 55 ∷ []) ≡ Some 7
 unfolding is_digit only_digits value_from number_of
 zeros_in_front = refl
 
 -- an empty word is no number
-empty_word : number_of [] ≡ none
+empty_word : number_of [] ≡ None
 unfolding is_digit only_digits value_from number_of
 empty_word = refl
 
 -- 18446744073709551615 is the largest number
-largest : number_of (digits_of (2 ^ 64 - 1)) ≡ some (2 ^ 64 - 1)
+largest : number_of (digits_of (2 ^ 64 - 1)) ≡ Some (2 ^ 64 - 1)
 unfolding is_digit only_digits value_from number_of digits_within digits_of
 largest = refl
 
 -- 18446744073709551616 is no number
-too_large : number_of (digits_of (2 ^ 64)) ≡ none
+too_large : number_of (digits_of (2 ^ 64)) ≡ None
 unfolding is_digit only_digits value_from number_of digits_within digits_of
 too_large = refl
 

@@ -5,7 +5,7 @@ use native.Mathlib.Omega.{arith}
 use mathlib.Core.Path.{◌≡◌, refl, ap, ◌∙◌}
 use mathlib.Core.Bool.{true, false, ◌&&◌}
 use mathlib.Core.List.{List, [], ◌∷◌, ◌++◌, map, append-nil}
-use mathlib.Core.Option.{some}
+use Rattle.std.specs.Prelude.{Some}
 use lib.Dec.{ltb, leb}
 use lib.ListN.{length}
 use borrow.Author.Tests.{ne_eqb, lt-ltb, le-ltb, ltb-true, leb-true}
@@ -21,9 +21,8 @@ use Rattle.reading.specs.Words.{first_word, further_words, words_of}
 use Rattle.reading.specs.Calls.{Naming, namings, naming_of, shape_right, with_number, numbers_of}
 use Rattle.reading.specs.Lines.{is_comment, most_bytes, call_with, meaning_of}
 use Rattle.reading.specs.Lines.Meaning.{call}
-use Rattle.reading.specs.Found.{only_letters}
 use Rattle.reading.proofs.Values.{value_append}
-use Rattle.reading.proofs.Spelling.{Usable, usable_letters, usable_found}
+use Rattle.reading.proofs.Spelling.{only_letters, Usable, usable_found}
 
 value_last : (v d : ℕ) → value_from v (digit d ∷ []) ≡ v * 10 + d
 unfolding value_from
@@ -66,7 +65,7 @@ digits_only (suc k) n =
     (only_one (n % 10) (omega arith)))
 
 -- a number that is written is read back the same
-pub digits_read : (n : ℕ) → n < 2 ^ 64 → number_of (digits_of n) ≡ some n
+pub digits_read : (n : ℕ) → n < 2 ^ 64 → number_of (digits_of n) ≡ Some n
 unfolding number_of digits_of
 digits_read n h =
     let v = digits_value 19 n (omega arith) in
@@ -126,7 +125,7 @@ texts_spaceless [] = nobody
 texts_spaceless (n ∷ ns) = also (digits_spaceless (digits_of n) (digits_only 20 n)) (texts_spaceless ns)
 
 -- numbers that are written are read back the same
-pub texts_read : (ns : List ℕ) → Numbers ns → numbers_of (map digits_of ns) ≡ some ns
+pub texts_read : (ns : List ℕ) → Numbers ns → numbers_of (map digits_of ns) ≡ Some ns
 unfolding numbers_of with_number
 texts_read ns nobody = refl
 texts_read ns (also {x = n} {xs = ms} p ps) = rw (digits_read n p, texts_read ms ps)
@@ -161,16 +160,16 @@ WrittenReads x =
     (ns : List ℕ) → Numbers ns → shape_right x.shape ns ≡ true → length (written x ns) ≤ most_bytes
     → meaning_of (written x ns) ≡ call x.name x.shape ns
 
-written_reads : (x : Naming) → (naming_of x.word ≡ some x) × Usable x → WrittenReads x
+written_reads : (x : Naming) → (naming_of x.word ≡ Some x) × Usable x → WrittenReads x
 unfolding WrittenReads meaning_of call_with
 written_reads x u ns small right short =
-    let letters = usable_letters u.1 in
+    let letters = u.1.letters in
     let words : first_word (written x ns) ∷ further_words (written x ns) ≡ x.word ∷ map digits_of ns =
     unfold words_of in
     joined_words x.word (map digits_of ns) (letters_spaceless x.word letters) (texts_spaceless ns) in
     let first : first_word (written x ns) ≡ x.word = cc in
     let further : further_words (written x ns) ≡ map digits_of ns = cc in
-    let starts : is_comment (written x ns) ≡ false = unfold joined in letters_begin x.word (spaced (map digits_of ns)) letters u.1.some in
+    let starts : is_comment (written x ns) ≡ false = unfold joined in letters_begin x.word (spaced (map digits_of ns)) letters u.1.filled in
     rw (starts, le-ltb most_bytes (length (written x ns)) short, first, further, u.0, texts_read ns small, right)
 
 pub calls_read : Every WrittenReads namings

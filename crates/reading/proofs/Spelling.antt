@@ -1,26 +1,21 @@
--- How a word is looked up in the table of names: by its number, which no two words share that could be names.
-use Prim.Native.Nat.{ℕ, zero, suc, ◌+◌, ◌*◌, ◌^◌, ◌≤◌, ◌<◌}
-use native.Mathlib.Omega.{arith}
-use native.Mathlib.Numerals.{add-one}
-use mathlib.Core.Path.{◌≡◌, refl, sym, subst, ap, ap₂, ◌∙◌}
-use mathlib.Core.Bool.{Bool, true, false, ◌&&◌, not}
-use mathlib.Core.List.{List, [], ◌∷◌}
-use mathlib.Core.Option.{Option, none, some}
-use lib.Dec.{eqb, leb, ltb}
-use lib.ListN.{length, get_or, drop, drop_of_length-le}
-use lib.Seq.{drop-cons}
-use types.Run.{OneOf}
-use borrow.Author.Tests.{eq-eqb, ne_eqb, eqb-true, leb-true, ltb-true, le-leb, lt-leb, not-true}
+-- How a word is looked up in the table of names, and that no word stands for two calls.
+use Rattle.std.proofs.Common.{◌≡◌, ℕ, suc, ◌≤◌, ◌<◌, Bool, true, false, ◌&&◌, not, List, [], ◌∷◌, eqb, leb, ltb, length, get_or, refl, subst, ap, ap₂, arith}
+use Rattle.std.specs.Prelude.{Option, None, Some}
+use Rattle.std.proofs.Math.Dec.{eqb-zero-suc, eqb-suc-zero, eqb-suc-suc}
+use Rattle.std.proofs.lemmas.Bool.Decides.{nat_tests}
+use borrow.Author.Tests.{eq-eqb, eqb-true, leb-true, ltb-true, not-true}
 use Rattle.basics.specs.Choice.{pick}
 use Rattle.basics.specs.Lists.{Every}
 use Rattle.basics.specs.Lists.Every.{nobody, also}
-use Rattle.basics.proofs.Cases.{never, and_true, and_no}
+use Rattle.basics.proofs.Cases.{never, and_true}
 use Rattle.basics.proofs.Everywhere.{every_map}
 use Rattle.reading.specs.Calls.{Naming, same_word, namings, found, naming_of}
-use Rattle.reading.specs.Found.{only_letters, most_letters, nameable, digits_in, code_of, named_of}
+use Rattle.reading.specs.Found.{named_of}
+use Rattle.reading.specs.declared.Name.{Name}
+use Rattle.reading.specs.declared.Shape.{Shape}
 use Rattle.reading.proofs.Shapes.{fixed_by}
 
--- ---- words and their numbers
+-- ---- words
 -- a word is the same as itself, and as no other
 pub same_self : (w : List ℕ) → same_word w w ≡ true
 unfolding same_word
@@ -36,112 +31,88 @@ same_is (a ∷ us) (b ∷ vs) e =
     let both = and_true (eqb a b) (same_word us vs) e in
     ap₂ (λ (x : ℕ) (xs : List ℕ). x ∷ xs) (eqb-true a b both.0) (same_is us vs both.1)
 
-letter : (b : ℕ) → (leb 97 b && leb b 122) ≡ true → (97 ≤ b) × (b ≤ 122)
-letter b e = let both = and_true (leb 97 b) (leb b 122) e in (leb-true 97 b both.0, leb-true b 122 both.1)
+-- whether the bytes of a word from a place on are those of another word
+abbrev pub spelled : List ℕ → ℕ → List ℕ → Bool
+spelled w at [] = true
+spelled w at (b ∷ bs) = eqb (get_or w at 0) b && spelled w (suc at) bs
 
--- words of letters that have the same number are the same
-digits_same : (us vs : List ℕ) → only_letters us ≡ true → only_letters vs ≡ true → digits_in us ≡ digits_in vs → us ≡ vs
-unfolding only_letters digits_in
-digits_same [] [] p q e = refl
-digits_same [] (b ∷ vs) p q e = absurd (omega (arith, (letter b (and_true _ (only_letters vs) q).0).0))
-digits_same (a ∷ us) [] p q e = absurd (omega (arith, (letter a (and_true _ (only_letters us) p).0).0))
-digits_same (a ∷ us) (b ∷ vs) p q e =
-    let s = and_true _ (only_letters us) p in
-    let t = and_true _ (only_letters vs) q in
-    let la = letter a s.0 in
-    let lb = letter b t.0 in
-    let heads : a ≡ b = omega arith in
-    let tails : digits_in us ≡ digits_in vs = omega arith in
-    ap₂ (λ (x : ℕ) (xs : List ℕ). x ∷ xs) heads (digits_same us vs s.1 t.1 tails)
+spelled_behind : (a : ℕ) (w : List ℕ) (at : ℕ) (v : List ℕ) → spelled (a ∷ w) (suc at) v ≡ spelled w at v
+spelled_behind a w at [] = refl
+spelled_behind a w at (b ∷ bs) = ap (λ (t : Bool). eqb (get_or w at 0) b && t) (spelled_behind a w (suc at) bs)
 
--- the number of a word with a letter is above 0
-digits_some : (w : List ℕ) → only_letters w ≡ true → 0 < length w → 0 < digits_in w
-unfolding only_letters digits_in
-digits_some [] p h = absurd (omega arith)
-digits_some (b ∷ w) p h = omega (arith, (letter b (and_true _ (only_letters w) p).0).0)
+swapped : (s t u : Bool) → (s && (t && u)) ≡ (t && (s && u))
+swapped true true u = refl
+swapped true false u = refl
+swapped false true u = refl
+swapped false false u = refl
 
--- the number of a word of letters has at most a byte for each letter
-pub digits_below : (k : ℕ) (w : List ℕ) → length w ≤ k → only_letters w ≡ true → digits_in w < 256 ^ k
-unfolding only_letters digits_in
-digits_below zero [] h p = omega arith
-digits_below zero (b ∷ w) h p = absurd (omega arith)
-digits_below (suc k) [] h p = omega (arith, digits_below k [] (omega arith) refl)
-digits_below (suc k) (b ∷ w) h p =
-    let s = and_true _ (only_letters w) p in
-    omega (arith, (letter b s.0).1, digits_below k w (omega arith) s.1)
+-- a word is another if it is as long and has the same bytes
+same_spelled : (w v : List ℕ) → same_word w v ≡ (eqb (length w) (length v) && spelled w 0 v)
+unfolding same_word
+same_spelled [] [] = refl
+same_spelled [] (b ∷ bs) = rw (eqb-zero-suc (length bs))
+same_spelled (a ∷ w) [] = rw (eqb-suc-zero (length w))
+same_spelled (a ∷ w) (b ∷ bs) =
+    rw (eqb-suc-suc (length w) (length bs), spelled_behind a w 0 bs, same_spelled w bs)
+    (swapped (eqb a b) (eqb (length w) (length bs)) (spelled w 0 bs))
 
--- ---- the loop that works out the number of a word, from its last letter to its first
-pub letters_none : (w : List ℕ) → (only_letters (drop (length w) w) ≡ true) × (0 ≡ digits_in (drop (length w) w))
-unfolding only_letters digits_in
-letters_none w = (rw (drop_of_length-le w {i = length w} (omega arith)), rw (drop_of_length-le w {i = length w} (omega arith)))
+-- the entries whose words have n bytes
+abbrev pub as_long : ℕ → List Naming → List Naming
+as_long n [] = []
+as_long n (x ∷ xs) = pick (eqb n (length x.word)) (x ∷ as_long n xs) (as_long n xs)
 
-module _ (w : List ℕ) (i : ℕ) (h : i < length w) where
-  from_here : drop i w ≡ get_or w i 0 ∷ drop (i + 1) w
-  from_here = rw (add-one i) (drop-cons w i 0 h)
+-- the name and the shape of the first entry whose word has the bytes of this one
+abbrev pub spelled_in : List ℕ → List Naming → Option (Name × Shape)
+spelled_in w [] = None
+spelled_in w (x ∷ xs) = pick (spelled w 0 x.word) (Some (x.name, x.shape)) (spelled_in w xs)
 
-  pub letters_more : 97 ≤ get_or w i 0 → get_or w i 0 ≤ 122 → only_letters (drop (i + 1) w) ≡ true → only_letters (drop i w) ≡ true
-  unfolding only_letters
-  letters_more a b e = rw (from_here, le-leb 97 (get_or w i 0) a, le-leb (get_or w i 0) 122 b) e
-
-  pub digits_more : digits_in (drop i w) ≡ digits_in (drop (i + 1) w) * 256 + get_or w i 0
-  unfolding digits_in
-  digits_more = rw from_here
-
-letters_not : (w : List ℕ) (i : ℕ) → i < length w → (leb 97 (get_or w i 0) && leb (get_or w i 0) 122) ≡ false → only_letters w ≡ false
-unfolding only_letters
-letters_not [] i h e = absurd (omega arith)
-letters_not (b ∷ w) zero h e = rw e
-letters_not (b ∷ w) (suc i) h e = rw (letters_not w i (omega arith) e) (and_no (leb 97 b && leb b 122))
-
--- a word that is too long has the number 0, and so has one with a byte that is no small letter
-pub code_long : (w : List ℕ) → most_letters < length w → 0 ≡ code_of w
-unfolding code_of nameable
-code_long w h = rw (lt-leb (length w) most_letters h)
-
-code_other : (w : List ℕ) (i : ℕ) → i < length w → (leb 97 (get_or w i 0) && leb (get_or w i 0) 122) ≡ false → 0 ≡ code_of w
-unfolding code_of nameable
-code_other w i h e = rw (letters_not w i h e, and_no (leb (length w) most_letters))
-
-pub code_below : (w : List ℕ) (i : ℕ) → i < length w → get_or w i 0 < 97 → 0 ≡ code_of w
-code_below w i h l = code_other w i h (rw (lt-leb 97 (get_or w i 0) l))
-
-pub code_above : (w : List ℕ) (i : ℕ) → i < length w → 122 < get_or w i 0 → 0 ≡ code_of w
-code_above w i h l = code_other w i h (rw (lt-leb (get_or w i 0) 122 l) (and_no (leb 97 (get_or w i 0))))
-
--- a word of letters that is not too long has the number of its letters
-pub code_digits : (w : List ℕ) → length w ≤ most_letters → only_letters w ≡ true → digits_in w ≡ code_of w
-unfolding code_of nameable
-code_digits w h e = rw (le-leb (length w) most_letters h, e)
-
--- ---- the table by numbers
--- the first entry whose word has this number
-abbrev pub found_by : ℕ → List Naming → Option Naming
-found_by n [] = none
-found_by n (x ∷ xs) = pick (eqb n (code_of x.word)) (some x) (found_by n xs)
-
--- a word is another exactly if their numbers are equal, provided that the other could be a name
-same_code : (w v : List ℕ) → nameable v ≡ true → 0 < length v → same_word w v ≡ eqb (code_of w) (code_of v)
-same_code w v n h = by (same_word w v) refl
+named_among : (n : ℕ) (w : List ℕ) (xs : List Naming) → length w ≡ n → named_of (found w xs) ≡ spelled_in w (as_long n xs)
+unfolding found named_of
+named_among n w [] e = refl
+named_among n w (x ∷ xs) e = rw (same_spelled w x.word, e) (by (eqb n (length x.word)) (named_among n w xs e))
   where
-    v_letters : only_letters v ≡ true
-    v_letters = unfold nameable in (and_true (leb (length v) most_letters) (only_letters v) n).1
+    at : (t : Bool) → named_of (found w xs) ≡ spelled_in w (as_long n xs)
+        → named_of (pick t (Some x) (found w xs)) ≡ pick t (Some (x.name, x.shape)) (spelled_in w (as_long n xs))
+    at true f = refl
+    at false f = f
 
-    v_code : code_of v ≡ digits_in v
-    v_code = unfold code_of in rw n
+    by : (t : Bool) → named_of (found w xs) ≡ spelled_in w (as_long n xs)
+        → named_of (pick (t && spelled w 0 x.word) (Some x) (found w xs)) ≡ spelled_in w (pick t (x ∷ as_long n xs) (as_long n xs))
+    by true f = at (spelled w 0 x.word) f
+    by false f = f
 
-    apart : (t : Bool) → nameable w ≡ t → same_word w v ≡ false → code_of w ≡ code_of v → ⊥
-    apart false e s z =
-        let none : code_of w ≡ 0 = unfold code_of in rw e in
-        omega (arith, digits_some v v_letters h, v_code)
-    apart true e s z =
-        let is : code_of w ≡ digits_in w = unfold code_of in rw e in
-        let letters : only_letters w ≡ true = unfold nameable in (and_true (leb (length w) most_letters) (only_letters w) e).1 in
-        let same = digits_same w v letters v_letters (sym is ∙ z ∙ v_code) in
-        never (sym s ∙ ap (λ (u : List ℕ). same_word u v) same ∙ same_self v)
+-- The length of a word tells which names it can be, and its bytes tell which it is. The names have 4 to 8 bytes.
+module _ (w : List ℕ) where
+  pub named_4 : 4 ≤ length w → length w < 5 → named_of (naming_of w) ≡ spelled_in w (as_long 4 namings)
+  unfolding naming_of
+  named_4 l h = named_among 4 w namings (omega arith)
 
-    by : (t : Bool) → same_word w v ≡ t → t ≡ eqb (code_of w) (code_of v)
-    by true e = sym (eq-eqb (code_of w) (code_of v) (ap code_of (same_is w v e)))
-    by false e = sym (ne_eqb (code_of w) (code_of v) (apart (nameable w) refl e))
+  pub named_5 : 5 ≤ length w → length w < 6 → named_of (naming_of w) ≡ spelled_in w (as_long 5 namings)
+  unfolding naming_of
+  named_5 l h = named_among 5 w namings (omega arith)
+
+  pub named_6 : 6 ≤ length w → length w < 7 → named_of (naming_of w) ≡ spelled_in w (as_long 6 namings)
+  unfolding naming_of
+  named_6 l h = named_among 6 w namings (omega arith)
+
+  pub named_7 : 7 ≤ length w → length w < 8 → named_of (naming_of w) ≡ spelled_in w (as_long 7 namings)
+  unfolding naming_of
+  named_7 l h = named_among 7 w namings (omega arith)
+
+  pub named_8 : 8 ≤ length w → length w < 9 → named_of (naming_of w) ≡ spelled_in w (as_long 8 namings)
+  unfolding naming_of
+  named_8 l h = named_among 8 w namings (omega arith)
+
+  -- a word of another length is no name
+  pub named_short : length w < 4 → named_of (naming_of w) ≡ None
+  unfolding naming_of
+  named_short h = rw (named_among (length w) w namings refl) (grind (arith, nat_tests))
+
+  pub named_long : 8 < length w → named_of (naming_of w) ≡ None
+  unfolding naming_of
+  named_long h = rw (named_among (length w) w namings refl) (grind (arith, nat_tests))
+
+pub ruleset by_length = (named_4, named_5, named_6, named_7, named_8, named_short, named_long, nat_tests)
 
 -- ---- what holds of every entry of the table, by a test of each
 -- whether every element passes a test
@@ -158,106 +129,70 @@ every_both : {A : Type 0} {P Q R : A → Type 0} (f : (x : A) → P x → Q x �
 every_both f nobody nobody = nobody
 every_both f (also p ps) (also q qs) = also (f _ p q) (every_both f ps qs)
 
--- an entry can be used: its word could be a name, and its shape fixes at most six numbers
+-- whether every byte of a word is a small letter: ASCII has a at 97 and z at 122
+unfoldable pub only_letters : List ℕ → Bool
+only_letters [] = true
+only_letters (b ∷ bs) = (leb 97 b && leb b 122) && only_letters bs
+
+-- an entry can be used: its word has letters and nothing else, and its shape fixes at most six numbers
 usable_by : Naming → Bool
-usable_by x = nameable x.word && (ltb 0 (length x.word) && leb (fixed_by x.shape) 6)
+usable_by x = only_letters x.word && (ltb 0 (length x.word) && leb (fixed_by x.shape) 6)
 
 -- the same as a fact
 pub record Usable (x : Naming) : Type 0 where
-  pub names : nameable x.word ≡ true
-  pub some : 0 < length x.word
+  pub letters : only_letters x.word ≡ true
+  pub filled : 0 < length x.word
   pub few : fixed_by x.shape ≤ 6
 
 usable_by_lem : (x : Naming) → usable_by x ≡ true → Usable x
 unfolding usable_by
 usable_by_lem x e =
-    let one = and_true (nameable x.word) _ e in
+    let one = and_true (only_letters x.word) _ e in
     let two = and_true (ltb 0 (length x.word)) _ one.1 in
-    record {
-      names = one.0;
-      some = ltb-true 0 (length x.word) two.0;
-      few = leb-true (fixed_by x.shape) 6 two.1;
-    }
-
--- the word of an entry that can be used has only letters
-pub usable_letters : {x : Naming} → Usable x → only_letters x.word ≡ true
-unfolding nameable
-usable_letters {x} u = (and_true (leb (length x.word) most_letters) (only_letters x.word) u.names).1
+    record { letters = one.0; filled = ltb-true 0 (length x.word) two.0; few = leb-true (fixed_by x.shape) 6 two.1 }
 
 -- every entry can be used
 pub usable : Every Usable namings
-usable = every_map usable_by_lem (passed usable_by namings (unfold passing usable_by namings nameable only_letters in refl))
-
--- ---- looking a word up
-found_by_lem : (w : List ℕ) {xs : List Naming} → Every Usable xs → found w xs ≡ found_by (code_of w) xs
-unfolding found
-found_by_lem w nobody = refl
-found_by_lem w (also {x = x} {xs = xs} u us) =
-    ap₂ (λ (t : Bool) (o : Option Naming). pick t (some x) o) (same_code w x.word u.names u.some) (found_by_lem w us)
+usable = every_map usable_by_lem (passed usable_by namings (unfold passing usable_by only_letters in refl))
 
 -- what is found can be used
-found_usable : (w : List ℕ) (xs : List Naming) → Every Usable xs → (x : Naming) → found w xs ≡ some x → Usable x
+found_usable : (w : List ℕ) (xs : List Naming) → Every Usable xs → (x : Naming) → found w xs ≡ Some x → Usable x
 unfolding found
 found_usable w xs nobody x e = absurd (let z : ◌≡◌ {A = ℕ} 0 1 = cc in omega arith)
 found_usable w xs (also {x = y} {xs = ys} u us) x e =
     by (same_word w y.word) e (found_usable w ys us x)
   where
-    by : (t : Bool) → pick t (some y) (found w ys) ≡ some x → (found w ys ≡ some x → Usable x) → Usable x
+    by : (t : Bool) → pick t (Some y) (found w ys) ≡ Some x → (found w ys ≡ Some x → Usable x) → Usable x
     by true f rest = let same : y ≡ x = cc in subst Usable same u
     by false f rest = rest f
 
-pub named_usable : (w : List ℕ) (x : Naming) → naming_of w ≡ some x → Usable x
+pub named_usable : (w : List ℕ) (x : Naming) → naming_of w ≡ Some x → Usable x
 unfolding naming_of
 named_usable w x e = found_usable w namings usable x e
 
--- a word with the number of an entry names its call, and a word with no entry's number names none
-pub named_as : (w : List ℕ) (n : ℕ) (x : Naming) → code_of w ≡ n → found_by n namings ≡ some x → named_of (some x) ≡ named_of (naming_of w)
-unfolding naming_of
-named_as w n x e f = ap named_of (sym (found_by_lem w usable ∙ ap (λ (k : ℕ). found_by k namings) e ∙ f))
-
 -- ---- no word stands for two calls
--- whether no entry has this number
-absent : ℕ → List Naming → Bool
-absent n xs = passing (λ x. not (eqb (code_of x.word) n)) xs
+-- whether no entry has this word
+absent : List ℕ → List Naming → Bool
+absent w xs = passing (λ x. not (same_word x.word w)) xs
 
--- whether no two entries have the same number
+-- whether no two entries have the same word
 distinct : List Naming → Bool
 distinct [] = true
-distinct (x ∷ xs) = absent (code_of x.word) xs && distinct xs
+distinct (x ∷ xs) = absent x.word xs && distinct xs
 
--- so each entry is found by its own number
-found_own : (xs : List Naming) → distinct xs ≡ true → Every (λ x. found_by (code_of x.word) xs ≡ some x) xs
-unfolding distinct absent
+-- so each entry is found by its own word
+found_own : (xs : List Naming) → distinct xs ≡ true → Every (λ x. found x.word xs ≡ Some x) xs
+unfolding distinct absent found
 found_own [] e = nobody
 found_own (x ∷ xs) e =
-    let both = and_true (absent (code_of x.word) xs) (distinct xs) e in
-    also {x = x} {xs = xs} (rw (eq-eqb (code_of x.word) (code_of x.word) refl))
-    (every_both (λ y f g. rw (not-true (eqb (code_of y.word) (code_of x.word)) f) g) (passed (λ y. not (eqb (code_of y.word) (code_of x.word))) xs both.0) (found_own xs both.1))
+    let both = and_true (absent x.word xs) (distinct xs) e in
+    also {x = x} {xs = xs} (rw (same_self x.word))
+    (every_both (λ y f g. rw (not-true (same_word y.word x.word) f) g) (passed (λ y. not (same_word y.word x.word)) xs both.0) (found_own xs both.1))
 
 -- every entry's word names its call
-pub usable_found : Every (λ x. (naming_of x.word ≡ some x) × Usable x) namings
+pub usable_found : Every (λ x. (naming_of x.word ≡ Some x) × Usable x) namings
 unfolding naming_of
 usable_found =
-    every_both (λ x f u. (found_by_lem x.word usable ∙ f, u))
-    (found_own namings (unfold distinct absent passing namings code_of nameable only_letters digits_in in refl))
+    every_both (λ x f u. (f, u))
+    (found_own namings (unfold distinct absent passing same_word in refl))
     usable
-
--- ---- a word that is not in the table
--- a number that is none of the entries' numbers: the entries in their order, from those that were missed before
-abbrev pub missed : ℕ → Type 0 → List Naming → Type 0
-missed n before [] = before
-missed n before (x ∷ xs) = missed n (before × (OneOf (code_of x.word ∷ []) n → ⊥)) xs
-
-missed_before : (n : ℕ) (before : Type 0) (xs : List Naming) → missed n before xs → before
-missed_before n before [] m = m
-missed_before n before (x ∷ xs) m = (missed_before n (before × (OneOf (code_of x.word ∷ []) n → ⊥)) xs m).0
-
-missed_all : (n : ℕ) (before : Type 0) (xs : List Naming) → missed n before xs → found_by n xs ≡ none
-missed_all n before [] m = refl
-missed_all n before (x ∷ xs) m =
-    let now = before × (OneOf (code_of x.word ∷ []) n → ⊥) in
-    rw (ne_eqb n (code_of x.word) (λ e. (missed_before n now xs m).1 e)) (missed_all n now xs m)
-
-pub named_not : (w : List ℕ) (n : ℕ) → code_of w ≡ n → missed n Unit namings → named_of none ≡ named_of (naming_of w)
-unfolding naming_of
-named_not w n e m = ap named_of (sym (found_by_lem w usable ∙ ap (λ (k : ℕ). found_by k namings) e ∙ missed_all n Unit namings m))

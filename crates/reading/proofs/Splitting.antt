@@ -1,16 +1,15 @@
 -- How a line is split into words.
-use Prim.Native.Nat.{ℕ, suc, ◌+◌, ◌-◌, ◌≤◌}
+use Rattle.std.proofs.Common.{◌≡◌, ℕ, suc, ◌+◌, ◌-◌, ◌≤◌, ◌<◌, Bool, true, false, cond, List, [], ◌∷◌, eqb, ltb, length, get_or, take, drop, subst, refl, sym, ap, ◌∙◌, arith}
 use native.Mathlib.Nat.{suc-add}
-use native.Mathlib.Omega.{arith}
-use mathlib.Core.Path.{◌≡◌, refl, sym, ap, ◌∙◌}
-use mathlib.Core.Bool.{Bool, true, false}
-use mathlib.Core.List.{List, [], ◌∷◌}
-use lib.Dec.{eqb}
-use lib.ListN.{length, take, drop, length-drop}
-use lib.Seq.{drop-drop, take_all}
+use Rattle.std.specs.Prelude.{Option, Some, None, unwrap_or}
+use lib.ListN.{drop_of_length-le, length-drop}
+use lib.Seq.{take_all}
+use borrow.Author.Tests.{ltb-false}
+use Rattle.std.specs.List.{slice_split, onto_first, position_or_len}
+use Rattle.std.proofs.lemmas.List.Recursion.{is_position_or_len}
 use Rattle.basics.specs.Choice.{pick}
-use Rattle.basics.specs.Lists.{between, up_to}
-use Rattle.basics.proofs.Fronts.{up_most}
+use Rattle.basics.specs.Lists.{up_to}
+use Rattle.basics.proofs.Fronts.{drop_more, up_most, up_taken}
 use Rattle.writing.specs.Words.{space}
 use Rattle.reading.specs.Words.{first_word, further_words, words_of}
 
@@ -42,37 +41,70 @@ further_some (b ∷ bs) h = by (eqb b space) h (further_some bs)
         rest (λ z. e (omega arith))
         ∙ ap (λ (n : ℕ). words_of (drop n (b ∷ bs))) (sym (suc-add (length (first_word bs)) 1))
 
--- the first space of a line is where its first word ends
-pub whole_word : (line : List ℕ) (end : ℕ) → end ≡ 0 + length (up_to space (between 0 (length line) line))
-    → end ≡ length (first_word line)
-whole_word line end e =
-    let size : length line - 0 ≡ length line = omega arith in
-    let all : between 0 (length line) line ≡ line = ap (λ (k : ℕ). take k line) size ∙ take_all (length line) line (omega arith) in
-    omega (arith, e, ap (λ (bs : List ℕ). length (up_to space bs)) all)
+-- a line from a place to its end
+pub whole_tail : (line : List ℕ) (at : ℕ) → take (length line - at) (drop at line) ≡ drop at line
+whole_tail line at = take_all (length line - at) (drop at line) (omega (arith, length-drop at line))
 
-module _ (line : List ℕ) (at : ℕ) (within : at ≤ length line) where
+-- the words of a line are its parts between spaces
+pub split_words : (bs : List ℕ) → slice_split (λ b. eqb b space) bs ≡ words_of bs
+unfolding up_to further_words words_of
+split_words [] = refl
+split_words (b ∷ bs) = rw (split_words bs) (by (eqb b space))
+  where
+    by : (t : Bool) → cond t ([] ∷ words_of bs) (onto_first b (words_of bs))
+        ≡ pick t [] (b ∷ up_to space bs) ∷ pick t (up_to space bs ∷ further_words bs) (further_words bs)
+    by true = refl
+    by false = refl
+
+-- a part between spaces is a word, and the words after it are left
+pub next_word : (line : List ℕ) (n : ℕ) (w : List ℕ)
+    → (n < length (slice_split (λ b. eqb b space) line)) × (w ≡ get_or (slice_split (λ b. eqb b space) line) n w)
+    → drop n (words_of line) ≡ w ∷ drop (n + 1) (words_of line)
+next_word line n w t =
+    let parts = slice_split (λ b. eqb b space) line in
+    let P : List (List ℕ) → Type 0 = λ ws. drop n ws ≡ w ∷ drop (n + 1) ws in
+    subst P (split_words line) (drop_more parts n w t.0 ∙ ap (λ v. v ∷ drop (n + 1) parts) (sym t.1))
+
+-- no word is left after as many as there are parts
+pub last_word : (line : List ℕ) (n : ℕ) → n ≡ length (slice_split (λ b. eqb b space) line) → drop n (words_of line) ≡ []
+last_word line n e = drop_of_length-le (words_of line) (omega (arith, e, ap length (split_words line)))
+
+-- the first word ends at the first space, or at the end of the line
+pub word_ends : (bs : List ℕ) → length (first_word bs) ≡ position_or_len (λ b. eqb b space) bs
+unfolding up_to
+word_ends = is_position_or_len (λ bs. length (first_word bs)) (λ b. eqb b space) refl (λ b bs. by (eqb b space) b bs)
+  where
+    by : (t : Bool) (b : ℕ) (bs : List ℕ) → length (pick t [] (b ∷ up_to space bs)) ≡ cond t 0 (1 + length (up_to space bs))
+    by true b bs = refl
+    by false b bs = omega arith
+
+module _ (line : List ℕ) (end : ℕ) (ends : end ≡ length (first_word line)) where
+  pub word_taken : take end line ≡ first_word line
+  word_taken = rw ends (up_taken space line)
+
+  pub word_length : end ≡ length (take end line)
+  word_length = ends ∙ ap length (sym word_taken)
+
   -- a word ends within the line
-  pub word_within : at + length (first_word (drop at line)) ≤ length line
-  word_within = omega (arith, up_most space (drop at line), length-drop at line)
+  pub word_within : end ≤ length line
+  word_within = omega (arith, up_most space line)
 
-  -- no word follows one that ends at the end of the line
-  pub last_word : at + length (first_word (drop at line)) ≡ length line → further_words (drop at line) ≡ []
-  last_word e = further_none (drop at line) (omega (arith, length-drop at line))
+  -- after any word but the last there is at least one byte more
+  pub word_behind : (end ≡ length line → ⊥) → end + 1 ≤ length line
+  word_behind more = apart (length line) word_within more
+    where
+      apart : (n : ℕ) → end ≤ n → (end ≡ n → ⊥) → end + 1 ≤ n
+      apart n a b = omega arith
 
-  module _ (more : at + length (first_word (drop at line)) ≡ length line → ⊥) where
-    -- after any other word there is at least one byte more
-    pub more_within : at + length (first_word (drop at line)) + 1 ≤ length line
-    more_within = apart (at + length (first_word (drop at line))) (length line) word_within more
-      where
-        apart : (m n : ℕ) → m ≤ n → (m ≡ n → ⊥) → m + 1 ≤ n
-        apart m n a b = omega arith
-
-    -- the further words begin after that byte
-    pub more_words :
-        further_words (drop at line) ≡ words_of (drop (at + length (first_word (drop at line)) + 1) line)
-    more_words =
-        let w = first_word (drop at line) in
-        let next : at + (length w + 1) ≡ at + length w + 1 = omega arith in
-        further_some (drop at line) (λ e. more (omega (arith, length-drop at line)))
-        ∙ ap words_of (drop-drop (length (first_word (drop at line)) + 1) at line)
-        ∙ ap (λ (n : ℕ). words_of (drop n line)) next
+-- the place of the first space, or the length of a line without one, is where the first word ends
+pub word_at : (line : List ℕ) (r : Option ℕ)
+    → r ≡ cond (ltb (position_or_len (λ b. eqb b space) line) (length line)) (Some (position_or_len (λ b. eqb b space) line)) None
+    → unwrap_or r (length line) ≡ length (first_word line)
+word_at line r e = rw e (by (ltb (position_or_len (λ b. eqb b space) line) (length line)) refl)
+  where
+    by : (t : Bool) → ltb (position_or_len (λ b. eqb b space) line) (length line) ≡ t
+        → unwrap_or (cond t (Some (position_or_len (λ b. eqb b space) line)) None) (length line) ≡ length (first_word line)
+    by true f = sym (word_ends line)
+    by false f =
+        let far = ltb-false (position_or_len (λ b. eqb b space) line) (length line) f in
+        omega (arith, word_ends line, word_within line (length (first_word line)) refl)

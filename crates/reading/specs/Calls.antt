@@ -1,6 +1,6 @@
 -- The names of the calls, and which numbers each has as arguments (docs/JOURNAL.md, Lines in).
 use Rattle.std.specs.Prelude.{ℕ, ◌+◌, Bool, true, false, ◌&&◌, List, [], ◌∷◌, eqb, leb, length, get_or}
-use Rattle.std.proofs.Math.Option.{Option, none, some}
+use Rattle.std.specs.Prelude.{Option, None, Some}
 use Rattle.basics.specs.Choice.{pick}
 use Rattle.reading.specs.Numbers.{number_of}
 use Rattle.reading.specs.declared.Name.{Name}
@@ -24,7 +24,7 @@ abbrev naming : List ℕ → Name → Shape → Naming
 naming w n s = record { word = w; name = n; shape = s }
 
 -- every line that is answered with numbers: its word is its name in lower case
-unfoldable pub namings : List Naming
+abbrev pub namings : List Naming
 namings =
     naming (111 ∷ 112 ∷ 101 ∷ 110 ∷ []) Name.Open Shape.Days
     ∷ naming (101 ∷ 110 ∷ 116 ∷ 101 ∷ 114 ∷ []) Name.Enter (Shape.Plain 6)
@@ -45,8 +45,8 @@ namings =
 
 -- the first entry of a list of namings that has this word
 unfoldable pub found : List ℕ → List Naming → Option Naming
-found w [] = none
-found w (x ∷ xs) = pick (same_word w x.word) (some x) (found w xs)
+found w [] = None
+found w (x ∷ xs) = pick (same_word w x.word) (Some x) (found w xs)
 
 -- the call that a word names, if it names one
 unfoldable pub naming_of : List ℕ → Option Naming
@@ -86,11 +86,11 @@ shape_right shape ns = eqb (length ns) (counted shape ns) && listable (lists_of 
 
 -- a number and then others, if the number is there and all others are too
 unfoldable pub with_number : Option ℕ → Option (List ℕ) → Option (List ℕ)
-with_number none ns = none
-with_number (some n) none = none
-with_number (some n) (some ns) = some (n ∷ ns)
+with_number None ns = None
+with_number (Some n) None = None
+with_number (Some n) (Some ns) = Some (n ∷ ns)
 
 -- the numbers of a list of words, if every word is a number
 unfoldable pub numbers_of : List (List ℕ) → Option (List ℕ)
-numbers_of [] = some []
+numbers_of [] = Some []
 numbers_of (w ∷ ws) = with_number (number_of w) (numbers_of ws)

@@ -1,6 +1,6 @@
 -- What a line of a journal says (docs/JOURNAL.md, Lines in and What is not a call).
 use Rattle.std.specs.Prelude.{ℕ, ◌≡◌, Bool, true, List, [], ◌∷◌, eqb, ltb, length}
-use Rattle.std.proofs.Math.Option.{Option, none, some}
+use Rattle.std.specs.Prelude.{Option, None, Some}
 use Rattle.std.proofs.lemmas.List.Edits.{sets}
 use Rattle.basics.specs.Choice.{pick}
 use Rattle.reading.specs.Numbers.{number_of}
@@ -29,9 +29,9 @@ most_bytes = 65_536
 -- What a line says, by its name and its numbers. It is a call if its first word is a name, every word after it is a
 -- number, and these numbers have the shape of the call.
 unfoldable pub call_with : Option Naming → Option (List ℕ) → Meaning
-call_with none ns = no_call
-call_with (some x) none = no_call
-call_with (some x) (some ns) = pick (shape_right x.shape ns) (call x.name x.shape ns) no_call
+call_with None ns = no_call
+call_with (Some x) None = no_call
+call_with (Some x) (Some ns) = pick (shape_right x.shape ns) (call x.name x.shape ns) no_call
 
 -- What a line says. A call is a name and then its arguments, on a line that is no comment and not too long.
 unfoldable pub meaning_of : List ℕ → Meaning
@@ -47,8 +47,8 @@ line_of no_call = NoCall
 
 -- a number and then others, or none if there is no number
 unfoldable pub if_number : Option ℕ → List ℕ → List ℕ
-if_number none ns = []
-if_number (some n) ns = n ∷ ns
+if_number None ns = []
+if_number (Some n) ns = n ∷ ns
 
 -- the numbers of a list of words, up to the first word that is no number
 unfoldable pub numbers_ahead : List (List ℕ) → List ℕ
@@ -57,8 +57,8 @@ numbers_ahead (w ∷ ws) = if_number (number_of w) (numbers_ahead ws)
 
 -- the numbers that are read, or none if no call is named
 unfoldable pub if_named : Option Naming → List ℕ → List ℕ
-if_named none ns = []
-if_named (some x) ns = ns
+if_named None ns = []
+if_named (Some x) ns = ns
 
 -- the numbers that are read from a line, whether or not it turns out to be a call
 unfoldable pub numbers_read : List ℕ → List ℕ

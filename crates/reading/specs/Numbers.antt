@@ -1,6 +1,6 @@
 -- Numbers as text: the value of a word of digits.
 use Rattle.std.specs.Prelude.{ℕ, ◌+◌, ◌-◌, ◌*◌, ◌^◌, Bool, true, ◌&&◌, List, [], ◌∷◌, ltb, length}
-use Rattle.std.proofs.Math.Option.{Option, none, some}
+use Rattle.std.specs.Prelude.{Option, None, Some}
 use Rattle.basics.specs.Choice.{pick}
 
 -- whether a byte is a digit
@@ -28,4 +28,4 @@ is_number w = ltb 0 (length w) && (only_digits w && ltb (value_of w) (2 ^ 64))
 
 -- the number that a word is, if it is a number
 unfoldable pub number_of : List ℕ → Option ℕ
-number_of w = pick (is_number w) (some (value_of w)) none
+number_of w = pick (is_number w) (Some (value_of w)) None

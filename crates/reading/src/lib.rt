@@ -1,13 +1,14 @@
 // Reads a line of a journal: it is a call with its arguments, a comment, or no call.
 #![tactic(auto)]
 
-ghost use Rattle.std.specs.Prelude.{◌≡◌, ◌≤◌, eqb, length, take, drop};
+ghost use Rattle.std.specs.Prelude.{◌≡◌, ◌≤◌, length, unwrap_or};
 ghost use Rattle.std.proofs.lemmas.List.Edits.{sets};
-ghost use Rattle.basics.specs.Choice.{pick};
-ghost use Rattle.reading.specs.Words.{words_of};
+ghost use Rattle.reading.specs.Numbers.{number_of};
+ghost use Rattle.reading.specs.Words.{first_word, further_words, words_of};
 ghost use Rattle.reading.specs.Calls.{most_numbers, naming_of, numbers_of, shape_right};
-ghost use Rattle.reading.specs.Lines.{numbers_ahead, Understood};
-ghost use Rattle.reading.specs.Found.{word_at, code_of, named_of, few_of, shaped_as};
+ghost use Rattle.reading.specs.Lines.{call_with, line_of, if_named, numbers_ahead, Understood};
+ghost use Rattle.reading.specs.Found.{named_of, few_of};
+ghost use Rattle.reading.specs.declared.Line.TheVariants.{NoCall};
 
 use writing::SPACE;
 
@@ -54,201 +55,107 @@ pub enum Line {
     NoCall,
 }
 
-// What a word of a line is. A number has its value and the place where the word ends.
-#[derive(Clone, Copy)]
-enum Word {
-    Number(u64, usize),
-    NoNumber,
-}
-
-// The call that a word names, if it names one, and its shape.
-#[derive(Clone, Copy)]
-enum Named {
-    As(Name, Shape),
-    Nothing,
-}
-
-// How many numbers were read, if every word was a number and each had a place.
-#[derive(Clone, Copy)]
-enum Count {
-    All(usize),
-    NotAll,
-}
-
-// The most letters of a name: as many as a number of 64 bits has bytes.
-const MOST_LETTERS: usize = 8;
-
 const MOST_LISTED: u64 = 4_096;
 
 const MOST_BYTES: usize = 65_536;
 
-// A word of small letters as one number, in which the first letter is the lowest byte. It is 0 for a word with any other
-// byte, and for one that is longer than a name.
-fn code_of(word: &[u8]) -> u64
-    ensures { result ≡ code_of word.now }
-{
-    if MOST_LETTERS < word.len() {
-        return 0;
-    }
-    let mut code: u64 = 0;
-    let mut left = word.len();
-    while 0 < left {
-        left -= 1;
-        let letter = word[left];
-        if letter < b'a' || b'z' < letter {
-            return 0;
-        }
-        code = code * 256 + letter as u64;
-    }
-    code
-}
-
-// The call that a word names. Each constant is the name's letters from the last to the first, so 0x6e65706f is `open`.
-fn name_of(word: &[u8]) -> Named
+// The call that a word names, if it names one, and its shape.
+#[tactic(auto, using(crate::proofs::Spelling::by_length))]
+fn name_of(word: &[u8]) -> Option<(Name, Shape)>
     ensures { result ≡ named_of (naming_of word.now) }
 {
-    match code_of(word) {
-        0x6e65706f => Named::As(Name::Open, Shape::Days),
-        0x7265746e65 => Named::As(Name::Enter, Shape::Plain(6)),
-        0x7761726468746977 => Named::As(Name::Withdraw, Shape::Plain(2)),
-        0x6c65636e6163 => Named::As(Name::Cancel, Shape::Plain(2)),
-        0x726576696c6564 => Named::As(Name::Deliver, Shape::Plain(2)),
-        0x726566666f => Named::As(Name::Offer, Shape::Plain(4)),
-        0x65746172 => Named::As(Name::Rate, Shape::Plain(2)),
-        0x65736f6c63 => Named::As(Name::Close, Shape::Lent(1)),
-        0x6e69616761 => Named::As(Name::Again, Shape::Lent(0)),
-        0x68746e6f6d => Named::As(Name::Month, Shape::Amounts),
-        0x737574617473 => Named::As(Name::Status, Shape::Plain(1)),
-        0x746e756f636361 => Named::As(Name::Account, Shape::Plain(1)),
-        0x6b6f6f6c => Named::As(Name::Look, Shape::Plain(1)),
-        0x746567726174 => Named::As(Name::Target, Shape::Lent(2)),
-        0x73656c7572 => Named::As(Name::Rules, Shape::Plain(0)),
-        _ => Named::Nothing,
+    match word {
+        b"open" => Some((Name::Open, Shape::Days)),
+        b"enter" => Some((Name::Enter, Shape::Plain(6))),
+        b"withdraw" => Some((Name::Withdraw, Shape::Plain(2))),
+        b"cancel" => Some((Name::Cancel, Shape::Plain(2))),
+        b"deliver" => Some((Name::Deliver, Shape::Plain(2))),
+        b"offer" => Some((Name::Offer, Shape::Plain(4))),
+        b"rate" => Some((Name::Rate, Shape::Plain(2))),
+        b"close" => Some((Name::Close, Shape::Lent(1))),
+        b"again" => Some((Name::Again, Shape::Lent(0))),
+        b"month" => Some((Name::Month, Shape::Amounts)),
+        b"status" => Some((Name::Status, Shape::Plain(1))),
+        b"account" => Some((Name::Account, Shape::Plain(1))),
+        b"look" => Some((Name::Look, Shape::Plain(1))),
+        b"target" => Some((Name::Target, Shape::Lent(2))),
+        b"rules" => Some((Name::Rules, Shape::Plain(0))),
+        _ => None,
     }
 }
 
-// The word that ends at a place, if every byte of it was a digit. It is a number unless it is empty.
-fn ended(value: u64, from: usize, at: usize) -> Word
-    ensures { result ≡ pick (eqb at from) Word.NoNumber (Word.Number value at) }
+// The number that a word is, if every byte of it is a digit and 64 bits hold its value.
+fn number_of(word: &[u8]) -> Option<u64>
+    ensures { result ≡ number_of word.now }
 {
-    if at == from {
-        return Word::NoNumber;
+    if word.is_empty() {
+        return None;
     }
-    Word::Number(value, at)
-}
-
-// Reads the word that begins at a place. If its value is too large for 64 bits, it stays so whatever digits follow, so
-// the rest of the word need not be read.
-fn read_word(line: &[u8], from: usize) -> Word
-    requires { from ≤ length line.now }
-    ensures { result ≡ word_at line.now from }
-{
     let mut value: u64 = 0;
-    let mut at = from;
-    while at < line.len() {
-        let byte = line[at];
-        if byte == SPACE {
-            return ended(value, from, at);
+    for byte in word {
+        if !byte.is_ascii_digit() {
+            return None;
         }
-        if byte < b'0' {
-            return Word::NoNumber;
-        }
-        if b'9' < byte {
-            return Word::NoNumber;
-        }
-        let digit = (byte - b'0') as u64;
-        if (u64::MAX - digit) / 10 < value {
-            return Word::NoNumber;
-        }
-        value = value * 10 + digit;
-        at += 1;
+        value = value.checked_mul(10)?.checked_add(u64::from(*byte - b'0'))?;
     }
-    ended(value, from, at)
+    Some(value)
 }
 
-// Reads the numbers from a place to the end of the line, and puts each into its place of the buffer.
-fn read_numbers(line: &[u8], from: usize, numbers: &mut [u64]) -> Count
-    requires { from ≤ length line.now }
-    ensures value { result ≡ few_of (length numbers.old) (numbers_of (words_of (drop from line.now))) }
-    ensures numbers_after { numbers.new
-        ≡ sets numbers.old 0 (numbers_ahead (words_of (drop from line.now))) }
+// Reads the numbers of a line, and puts each into its place of the buffer. The answer is how many there are, if every
+// word is a number and there is a place for each.
+fn read_numbers(line: &[u8], numbers: &mut [u64]) -> Option<usize>
+    ensures value { result ≡ few_of (length numbers.old) (numbers_of (words_of line.now)) }
+    ensures numbers_after { numbers.new ≡ sets numbers.old 0 (numbers_ahead (words_of line.now)) }
 {
-    let mut at = from;
     let mut count = 0;
-    while count < numbers.len() {
-        let Word::Number(value, end) = read_word(line, at) else {
-            return Count::NotAll;
-        };
-        numbers[count] = value;
-        count += 1;
-        if end == line.len() {
-            return Count::All(count);
+    for word in line.split(|byte| *byte == SPACE) {
+        if count == numbers.len() {
+            return None;
         }
-        at = end + 1;
+        numbers[count] = number_of(word)?;
+        count += 1;
     }
-    Count::NotAll
+    Some(count)
 }
 
-// Whether there are as many days as the third number says, and no list that is too long.
-fn has_days(numbers: &[u64], count: usize) -> bool
-    requires { count ≤ length numbers.now }
-    ensures { result ≡ shape_right Shape.Days (take count numbers.now) }
+// Whether a call of this shape has these numbers: neither too few nor too many, and no list that is too long.
+#[tactic(auto, using(std::proofs::lemmas::Grind::common_steps), unfolding(crate::specs::Calls::shape_right, crate::specs::Calls::counted, crate::specs::Calls::lists_of, crate::specs::Calls::listable))]
+fn has_shape(shape: Shape, numbers: &[u64]) -> bool
+    ensures { result ≡ shape_right shape numbers.now }
 {
-    if count < 3 {
-        return false;
-    }
-    let days = numbers[2];
-    days <= MOST_LISTED && count - 3 == days as usize
-}
-
-// Whether there are this many numbers before the two for the list that is lent, and the list is not too long.
-fn has_lent(before: usize, numbers: &[u64], count: usize) -> bool
-    requires { count ≤ length numbers.now }
-    ensures { result ≡ shape_right (Shape.Lent before) (take count numbers.now) }
-{
-    if count < 2 {
-        return false;
-    }
-    before == count - 2 && numbers[before] <= MOST_LISTED
-}
-
-// Whether there are as many amounts as the first number says, and no list that is too long.
-fn has_amounts(numbers: &[u64], count: usize) -> bool
-    requires { count ≤ length numbers.now }
-    ensures { result ≡ shape_right Shape.Amounts (take count numbers.now) }
-{
-    if count < 3 {
-        return false;
-    }
-    let amounts = numbers[0];
-    if MOST_LISTED < amounts {
-        return false;
-    }
-    count - 3 == amounts as usize && numbers[count - 2] <= MOST_LISTED
-}
-
-// Whether the first `count` numbers have this shape.
-fn has_shape(shape: Shape, numbers: &[u64], count: usize) -> bool
-    requires { count ≤ length numbers.now }
-    ensures { result ≡ shape_right shape (take count numbers.now) }
-{
-    match shape {
-        Shape::Plain(size) => count == size,
-        Shape::Days => has_days(numbers, count),
-        Shape::Lent(before) => has_lent(before, numbers, count),
-        Shape::Amounts => has_amounts(numbers, count),
+    match (shape, numbers) {
+        (Shape::Plain(size), _) => numbers.len() == size,
+        (Shape::Days, [_, _, days, rest @ ..]) => {
+            *days <= MOST_LISTED && rest.len() == *days as usize
+        }
+        (Shape::Lent(before), [first @ .., lent, _]) => {
+            first.len() == before && *lent <= MOST_LISTED
+        }
+        (Shape::Amounts, [amounts, rest @ .., lent, _]) => {
+            *amounts <= MOST_LISTED && rest.len() == *amounts as usize && *lent <= MOST_LISTED
+        }
+        _ => false,
     }
 }
 
-// The call with this name and the first `count` numbers, if they have its shape.
-fn shaped(name: Name, shape: Shape, numbers: &[u64], count: usize) -> Line
-    requires { count ≤ length numbers.now }
-    ensures { result ≡ shaped_as name shape (take count numbers.now) }
+// Reads a line that is no comment and not too long, if it is a call.
+fn read_call(line: &[u8], numbers: &mut [u64]) -> Option<Line>
+    requires { most_numbers ≤ length numbers.old }
+    ensures value { unwrap_or result NoCall ≡ line_of (call_with (naming_of (first_word line.now)) (numbers_of (further_words line.now))) }
+    ensures numbers_after { numbers.new
+        ≡ sets numbers.old 0 (if_named (naming_of (first_word line.now)) (numbers_ahead (further_words line.now))) }
 {
-    if has_shape(shape, numbers, count) {
-        return Line::Call(name, shape, count);
-    }
-    Line::NoCall
+    let end = line
+        .iter()
+        .position(|byte| *byte == SPACE)
+        .unwrap_or(line.len());
+    let (name, shape) = name_of(&line[..end])?;
+    let count = if end == line.len() {
+        0
+    } else {
+        read_numbers(&line[end + 1..], numbers)?
+    };
+    has_shape(shape, &numbers[..count]).then_some(Line::Call(name, shape, count))
 }
 
 // Reads a line of a journal, which is given without its line feed. Its arguments are put into the first places of the
@@ -257,24 +164,11 @@ pub fn read_line(line: &[u8], numbers: &mut [u64]) -> Line
     requires { most_numbers ≤ length numbers.old }
     ensures { Understood line.now numbers.old numbers.new result }
 {
-    if line.len() == 0 {
-        return Line::Comment;
-    }
-    if line[0] == b'#' {
+    if let [] | [b'#', ..] = line {
         return Line::Comment;
     }
     if MOST_BYTES < line.len() {
         return Line::NoCall;
     }
-    let end = writing::place_of(SPACE, line, 0, line.len());
-    let Named::As(name, shape) = name_of(&line[..end]) else {
-        return Line::NoCall;
-    };
-    if end == line.len() {
-        return shaped(name, shape, numbers, 0);
-    }
-    let Count::All(count) = read_numbers(line, end + 1, numbers) else {
-        return Line::NoCall;
-    };
-    shaped(name, shape, numbers, count)
+    read_call(line, numbers).unwrap_or(Line::NoCall)
 }

@@ -5,7 +5,7 @@ use native.Mathlib.Omega.{arith}
 use mathlib.Core.Path.{◌≡◌, refl, subst, ap, ◌∙◌}
 use mathlib.Core.Bool.{Bool, true, false}
 use mathlib.Core.List.{List}
-use mathlib.Core.Option.{Option, none, some}
+use Rattle.std.specs.Prelude.{Option, None, Some}
 use lib.Dec.{ltb}
 use lib.ListN.{length, get_or, take, drop}
 use lib.Seq.{sets, get_or-take, take-take}
@@ -36,12 +36,12 @@ use Rattle.settle.specs.Journal.{request_of}
 
 -- ---- the entries of the table of calls
 -- what holds of every entry holds of the one that is found
-found_every : (P : Naming → Type 0) (w : List ℕ) {xs : List Naming} → Every P xs → (x : Naming) → found w xs ≡ some x → P x
+found_every : (P : Naming → Type 0) (w : List ℕ) {xs : List Naming} → Every P xs → (x : Naming) → found w xs ≡ Some x → P x
 unfolding found
 found_every P w nobody x e = absurd (let z : ◌≡◌ {A = ℕ} 0 1 = cc in omega arith)
 found_every P w (also {x = y} {xs = ys} p ps) x e = by (same_word w y.word) e (found_every P w ps x)
   where
-    by : (t : Bool) → pick t (some y) (found w ys) ≡ some x → (found w ys ≡ some x → P x) → P x
+    by : (t : Bool) → pick t (Some y) (found w ys) ≡ Some x → (found w ys ≡ Some x → P x) → P x
     by true f rest = let same : y ≡ x = cc in subst P same p
     by false f rest = rest f
 
@@ -64,9 +64,9 @@ call_every P every line name shape ns e =
         → pick t comment (pick u no_call (call_with o q)) ≡ call name shape ns → P name shape
     by true u o f q g = absurd (let z : ◌≡◌ {A = ℕ} 0 1 = cc in omega arith)
     by false true o f q g = absurd (let z : ◌≡◌ {A = ℕ} 0 1 = cc in omega arith)
-    by false false none f q g = absurd (let z : ◌≡◌ {A = ℕ} 0 1 = cc in omega arith)
-    by false false (some x) f none g = absurd (let z : ◌≡◌ {A = ℕ} 0 1 = cc in omega arith)
-    by false false (some x) f (some ms) g =
+    by false false None f q g = absurd (let z : ◌≡◌ {A = ℕ} 0 1 = cc in omega arith)
+    by false false (Some x) f None g = absurd (let z : ◌≡◌ {A = ℕ} 0 1 = cc in omega arith)
+    by false false (Some x) f (Some ms) g =
         shaped x ms (shape_right x.shape ms) (found_every (λ y. P y.name y.shape) (first_word line) every x f) g
 
 -- ---- the numbers of a line are the first ones of the buffer
@@ -134,7 +134,7 @@ module _ (places : List ℕ) (count : ℕ) (within : count ≤ length places) wh
 
   -- this holds of every entry of the table
   same_every : Every (λ x. Same x.name x.shape) namings
-  unfolding namings asked_call
+  unfolding asked_call
   same_every =
       also same_open
       (also same_enter

@@ -12,16 +12,16 @@ use Rattle.closing.proofs.close_due.Goals.{After-keep_price}
 
 -- the course that the function follows is that of the rules
 followed : (c : After-keep_price) →
-    course c.args.cents c.measures_at-measures.result c.args.day.price (listed_offers c.args.offers) c.args.number c.keep_price.result ≡
-    stages c.args.day (age_by c.args.day.setup c.args.day.today c.args.o) (listed_offers c.args.offers) c.args.number c.args.o
+    course c.args.cents c.measures_at-measures.result c.args.day.now.price (listed_offers c.args.offers.now) c.args.number c.keep_price.result ≡
+    stages c.args.day.now (age_by c.args.day.now.setup c.args.day.now.today c.args.o) (listed_offers c.args.offers.now) c.args.number c.args.o
 followed c =
     let a = c.args in
-    course_is a.day (listed_offers a.offers) a.number a.o _ _ _ _ c.requires.closes.1 (ap (λ (x : ClearingDays). x.0) c.age_at-age.ensures)
+    course_is a.day.now (listed_offers a.offers.now) a.number a.o _ _ _ _ c.requires.closes.1 (ap (λ (x : ClearingDays). x.0) c.age_at-age.ensures)
     c.measures_at-measures.ensures c.keep_price.ensures
 
 -- it has room for its lines
 room : (c : After-keep_price) → Room c.args.count c.args.lines.now
-    (course c.args.cents c.measures_at-measures.result c.args.day.price (listed_offers c.args.offers) c.args.number c.keep_price.result)
+    (course c.args.cents c.measures_at-measures.result c.args.day.now.price (listed_offers c.args.offers.now) c.args.number c.keep_price.result)
 room c = rw (followed c) c.requires.room
 
 -- the obligation with its price stored is sound

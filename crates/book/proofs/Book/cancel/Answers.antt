@@ -15,9 +15,9 @@ use Rattle.book.proofs.Book.cancel.Goals as goal
 pub cancel_change-change-requires : goal.cancel_change-change-requires
 cancel_change-change-requires c = c.requires.ledger
 
-pub change-after-requires : goal.change-after-requires
+pub change-requires : goal.change-requires
 unfolding cancel_change
-change-after-requires c =
+change-requires c =
     let a = c.args in
     change_placed (cancel_refusals_in a.member) (λ o. cancel_refusals_of o a.member) (moved_by_wish a.member) (wishing a.member) refl a.self.ledger a.obligation _ c.cancel_change-change.ensures c.requires.ledger.few
 
@@ -27,5 +27,5 @@ returns c =
     let a = c.args in
     let told : ℕ → ℕ → Ledger → Cancelled = λ (k r : ℕ) (l : Ledger). record { answer = k; moved = r; book = with_ledger l a.self } in
     answered (λ (r : Cancelled). r.book)
-    (change_told (cancel_refusals_in a.member) (λ o. cancel_refusals_of o a.member) (moved_by_wish a.member) (wishing a.member) refl a.self.ledger a.obligation _ c.cancel_change-change.ensures told c.change-after.ensures)
+    (change_told (cancel_refusals_in a.member) (λ o. cancel_refusals_of o a.member) (moved_by_wish a.member) (wishing a.member) refl a.self.ledger a.obligation _ c.cancel_change-change.ensures told c.change.ensures)
     (cancel_valid _ c.requires a.obligation a.member)

@@ -61,15 +61,15 @@ returns-in_default-in_force c =
     (close_unset _ _ _ _ _ (next_day_is (goal.at.returns-in_default-in_force c).In-At) (sym c.in_force.ensures ∙ c.in_default-in_force.is) (passes (goal.at.returns-in_default-in_force c).Else-number-ne0))
     (λ z. absurd (omega arith))
 
-pub close-done-requires : goal.close-done-requires
-close-done-requires c =
+pub close-count-requires : goal.close-count-requires
+close-count-requires c =
     let a = c.args in
-    done_closable a.self c.requires a.price a.lines.now (passes (goal.at.close-done-requires c).Else-number-ne0) _ (next_day_is (goal.at.close-done-requires c).In-At) (is_set (goal.at.close-done-requires c).In-Since) _ (same_end (goal.at.close-done-requires c).In-Since)
+    done_closable a.self c.requires a.price a.lines.now (passes (goal.at.close-count-requires c).Else-number-ne0) _ (next_day_is (goal.at.close-count-requires c).In-At) (is_set (goal.at.close-count-requires c).In-Since) _ (same_end (goal.at.close-count-requires c).In-Since)
 
-pub of-kept-requires : goal.of-kept-requires
-of-kept-requires c =
-    done_keepable _ c.requires _ _ (passes (goal.at.of-kept-requires c).Else-number-ne0) _ (next_day_is (goal.at.of-kept-requires c).In-At) (is_set (goal.at.of-kept-requires c).In-Since) _ (same_end (goal.at.of-kept-requires c).In-Since) _ _ _ c.close-done.ensures
+pub of-self-requires : goal.of-self-requires
+of-self-requires c =
+    done_keepable _ c.requires _ _ (passes (goal.at.of-self-requires c).Else-number-ne0) _ (next_day_is (goal.at.of-self-requires c).In-At) (is_set (goal.at.of-self-requires c).In-Since) _ (same_end (goal.at.of-self-requires c).In-Since) _ _ _ c.close-count.ensures
 
 pub returns : goal.returns
 returns c =
-    done_end _ c.requires _ _ (passes (goal.at.returns c).Else-number-ne0) _ (next_day_is (goal.at.returns c).In-At) (is_set (goal.at.returns c).In-Since) _ (same_end (goal.at.returns c).In-Since) _ _ _ c.close-done.ensures _ c.of-kept.ensures.value
+    done_end _ c.requires _ _ (passes (goal.at.returns c).Else-number-ne0) _ (next_day_is (goal.at.returns c).In-At) (is_set (goal.at.returns c).In-Since) _ (same_end (goal.at.returns c).In-Since) _ _ _ c.close-count.ensures _ c.of-self.ensures.value

@@ -16,9 +16,9 @@ use Rattle.book.proofs.Book.deliver.Goals as goal
 pub deliver_change-change-requires : goal.deliver_change-change-requires
 deliver_change-change-requires c = c.requires.ledger
 
-pub change-after-requires : goal.change-after-requires
+pub change-requires : goal.change-requires
 unfolding deliver_change
-change-after-requires c =
+change-requires c =
     let a = c.args in
     change_placed (deliver_refusals_in a.quantity) (λ o. deliver_refusals_of (today_of a.self) o a.quantity) (λ o. cash_of o a.quantity) (moving part.Delivered a.quantity) refl a.self.ledger a.obligation _ c.deliver_change-change.ensures c.requires.ledger.few
 
@@ -28,5 +28,5 @@ returns c =
     let a = c.args in
     let told : ℕ → ℕ → Ledger → Delivered = λ (k r : ℕ) (l : Ledger). record { answer = k; cash = r; book = with_ledger l a.self } in
     answered (λ (r : Delivered). r.book)
-    (change_told (deliver_refusals_in a.quantity) (λ o. deliver_refusals_of (today_of a.self) o a.quantity) (λ o. cash_of o a.quantity) (moving part.Delivered a.quantity) refl a.self.ledger a.obligation _ c.deliver_change-change.ensures told c.change-after.ensures)
+    (change_told (deliver_refusals_in a.quantity) (λ o. deliver_refusals_of (today_of a.self) o a.quantity) (λ o. cash_of o a.quantity) (moving part.Delivered a.quantity) refl a.self.ledger a.obligation _ c.deliver_change-change.ensures told c.change.ensures)
     (deliver_valid _ c.requires a.obligation a.quantity)

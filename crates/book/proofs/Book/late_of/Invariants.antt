@@ -8,7 +8,7 @@ use Rattle.ledger.specs.Obligations.{no_obligation}
 use Rattle.book.proofs.Book.late_of.Given as goal
 
 abbrev pub invariant-loop-i : goal.invariant-loop-i
-invariant-loop-i l = (l.i ≤ l.count) × ((k : ℕ) → k < l.i → is_late l.today l.member (get_or l.obligations k no_obligation) ≡ false)
+invariant-loop-i l = (l.i ≤ l.self.ledger.count) × ((k : ℕ) → k < l.i → is_late l.self.day.today l.member (get_or l.self.ledger.obligations k no_obligation) ≡ false)
 
 abbrev pub decreases-loop-i : goal.decreases-loop-i
-decreases-loop-i l = l.count - l.i
+decreases-loop-i l = l.self.ledger.count - l.i

@@ -17,9 +17,9 @@ unfolding month
 returns-then-number-eq0 c = let e = c.settle_month-number.ensures in let b = c.args.self in
     let zero = c.if-number-eq0.true in
     let after : Ledger → Book = λ l. with_day (paid_day b.day) l b in record {
-      value = (λ i. record { answer = zero i; book = after (c.clear-after.ensures i) }) ∙ done_by _ _ (done_refused b) (sym e.value ∙ zero);
+      value = (λ i. record { answer = zero i; book = after (c.clear.ensures i) }) ∙ done_by _ _ (done_refused b) (sym e.value ∙ zero);
       payouts_after = e.places_after;
-      valid = subst (λ (l : Ledger). Valid (after l)) (sym c.clear-after.ensures) (paid_valid b c.requires);
+      valid = subst (λ (l : Ledger). Valid (after l)) (sym c.clear.ensures) (paid_valid b c.requires);
       collected_stays = refl;
     }
 

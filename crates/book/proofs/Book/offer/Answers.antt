@@ -1,8 +1,8 @@
 -- `offer` meets its contract.
 use Prim.Native.Nat.{ℕ, ◌<◌}
 use native.Mathlib.Omega.{arith}
-use mathlib.Core.Path.{◌≡◌, refl, sym, ap, ap₂, ◌∙◌}
-use Rattle.basics.specs.Refusals.{answer}
+use mathlib.Core.Path.{◌≡◌, refl, sym, ap₂, ◌∙◌}
+use Rattle.basics.specs.Refusals.{answer, outcome}
 use Rattle.basics.proofs.Refusals.{refused_with, done_by}
 use Rattle.offers.specs.declared.Offers.{Offers}
 use Rattle.ledger.specs.Ledger.{fetched, obligation_at}
@@ -10,13 +10,13 @@ use Rattle.refusals.specs.Calls.{fetch_refusals, offer_refusals_in}
 use Rattle.refusals.proofs.Offering.{Offered, offered, offers_few}
 use Rattle.refusals.proofs.Named.{fetch_passed, fetch_number}
 use Rattle.book.specs.declared.Done.{Done}
-use Rattle.book.specs.Book.{with_ledger}
+use Rattle.book.specs.Book.{with_ledger, Valid}
 use Rattle.book.specs.Instructing.{done_refused}
 use Rattle.book.specs.Buying.{offer_refusals_for, offer_answer_by, offer_done, offer}
 use Rattle.book.proofs.Answers.{answered}
 use Rattle.book.proofs.Kept.{offer_valid}
 use Rattle.book.proofs.Book.offer.Goals as goal
-use Rattle.book.proofs.Book.offer.Goals.{After-offer_answer-number, Then-number-eq0, else-number-eq0, then-number-eq0}
+use Rattle.book.proofs.Book.offer.Goals.{After-offer_answer-number, Then-number-eq0}
 
 -- the answer number, by the obligation that the book fetches
 number : (c : After-offer_answer-number) →
@@ -42,33 +42,47 @@ pub offer_answer-number-requires : goal.offer_answer-number-requires
 offer_answer-number-requires c = let h = c.requires in (h.ledger, h.setup)
 
 pub overflow_cast-obligation : goal.overflow_cast-obligation
-overflow_cast-obligation c = record { fits = omega (arith, (passes c.before c.if-number-eq0.true).0, c.requires.ledger.few) }
+overflow_cast-obligation c =
+    let t = (goal.at.overflow_cast-obligation c).Then-number-eq0 in
+    record { fits = omega (arith, (passes t.before t.if-number-eq0.true).0, c.requires.ledger.few) }
 
 pub overflow_cast-supplier : goal.overflow_cast-supplier
-overflow_cast-supplier c = record { fits = omega (arith, (numbers c).supplier_most) }
+overflow_cast-supplier c = record { fits = omega (arith, (numbers (goal.at.overflow_cast-supplier c).Then-number-eq0).supplier_most) }
 
 pub overflow_cast-quantity : goal.overflow_cast-quantity
-overflow_cast-quantity c = record { fits = omega (arith, (numbers c).quantity_within.1) }
+overflow_cast-quantity c = record { fits = omega (arith, (numbers (goal.at.overflow_cast-quantity c).Then-number-eq0).quantity_within.1) }
 
 pub overflow_cast-price : goal.overflow_cast-price
-overflow_cast-price c = record { fits = omega (arith, (numbers c).price_within.1) }
+overflow_cast-price c = record { fits = omega (arith, (numbers (goal.at.overflow_cast-price c).Then-number-eq0).price_within.1) }
 
-pub insert-held-requires : goal.insert-held-requires
-insert-held-requires c = offers_few _ _ _ _ _ _ (passes c.before c.if-number-eq0.true).2
+pub insert-self-requires : goal.insert-self-requires
+insert-self-requires c =
+    let t = (goal.at.insert-self-requires c).Then-number-eq0 in
+    offers_few _ _ _ _ _ _ (passes t.before t.if-number-eq0.true).2
 
-pub returns : goal.returns
+-- what an Offer returns, if it is the outcome by its refusals
+returned : (c : After-offer_answer-number) → let a = c.args in (r : Done) →
+    r ≡ outcome (answer (fetch_refusals (offer_refusals_in a.supplier a.quantity a.price) (fetched a.self.ledger a.obligation) (offer_refusals_for a.self a.price)))
+    (offer_done a.self a.obligation a.supplier a.quantity a.price) (done_refused a.self) →
+    record { value : r ≡ offer a.self a.obligation a.supplier a.quantity a.price; valid : Valid r.book }
 unfolding offer offer_refusals_in
-returns c =
+returned c r e =
     let a = c.args in
-    let l = a.self.ledger in
-    let input = offer_refusals_in a.supplier a.quantity a.price in
-    let on = offer_refusals_for a.self a.price in
-    let refusals = fetch_refusals input (fetched l a.obligation) on in
     let done = offer_done a.self a.obligation a.supplier a.quantity a.price in
-    let made : ℕ → Offers → Done = λ (k : ℕ) (held : Offers).
-    record { answer = k; book = with_ledger (record { obligations = l.obligations; count = l.count; offers = held; accounts = l.accounts }) a.self } in
-    let e = number c.before in
     answered (λ (r : Done). r.book)
-    (elim c.if-number-eq0.branch [ then-number-eq0 w ↦ ap₂ made w.if-number-eq0.true (w.held-is ∙ w.insert-held.ensures) ∙ done_by refusals done (done_refused a.self) (e ∙ w.if-number-eq0.true) | else-number-eq0 w ↦ ap (made _) w.held-is ∙ refused_with _ refusals done (done_refused a.self) e w.if-number-eq0.false ]
-    ∙ fetch_number input on (λ o. done) (done_refused a.self) done refl (fetched l a.obligation))
+    (e ∙ fetch_number (offer_refusals_in a.supplier a.quantity a.price) (offer_refusals_for a.self a.price) (λ o. done) (done_refused a.self) done refl (fetched a.self.ledger a.obligation))
     (offer_valid _ c.requires a.obligation a.supplier a.quantity a.price)
+
+pub returns-then-number-eq0 : goal.returns-then-number-eq0
+returns-then-number-eq0 c =
+    let l = c.args.self.ledger in
+    let zero = c.if-number-eq0.true in
+    let made : ℕ → Offers → Done = λ (k : ℕ) (held : Offers).
+    record { answer = k; book = with_ledger (record { obligations = l.obligations; count = l.count; offers = held; accounts = l.accounts }) c.args.self } in
+    let n = (goal.at.returns-then-number-eq0 c).After-offer_answer-number in
+    returned n _ (ap₂ made zero c.insert-self.ensures ∙ done_by _ _ (done_refused c.args.self) (number n ∙ zero))
+
+pub returns-else-number-eq0 : goal.returns-else-number-eq0
+returns-else-number-eq0 c =
+    let n = c.before in
+    returned n _ (refused_with _ _ _ (done_refused c.args.self) (number n) c.if-number-eq0.false)

@@ -17,14 +17,14 @@ passes : (c : Else-number-ne0) → answer (offer_refusals_in c.args.supplier c.a
 passes c = sym c.offer_answer_in-number.ensures ∙ c.if-number-ne0.false
 
 -- the obligation was found
-finds : (c : In-Found) → fetched c.args.ledger c.args.obligation ≡ Found c.in-Found.found
+finds : (c : In-Found) → fetched c.args.ledger.now c.args.obligation ≡ Found c.in-Found.found
 finds c = sym c.fetch.ensures ∙ c.in-Found.is
 
 pub returns-then-number-ne0 : goal.returns-then-number-ne0
 unfolding offer_answer_by
 returns-then-number-ne0 c =
     let a = c.args in
-    sym (input_answer _ (offer_refusals_by a.setup a.today a.ledger.offers.count a.price) (fetched a.ledger a.obligation) _ (sym c.offer_answer_in-number.ensures) c.if-number-ne0.true)
+    sym (input_answer _ (offer_refusals_by a.setup a.today a.ledger.now.offers.count a.price) (fetched a.ledger.now a.obligation) _ (sym c.offer_answer_in-number.ensures) c.if-number-ne0.true)
 
 pub returns-in_default : goal.returns-in_default
 unfolding offer_answer_by offer_refusals_in
@@ -37,7 +37,7 @@ pub offer_answer_of-requires : goal.offer_answer_of-requires
 offer_answer_of-requires c = (
   c.requires.1.terms,
   (offered _ _ _ (passes c.before.before.before.before.before.before)).price_within.1,
-  (found_sound c.args.ledger c.requires.0 c.args.obligation _ (finds c.before.before.before.before)).stage.price_most,
+  (found_sound c.args.ledger.now c.requires.0 c.args.obligation _ (finds c.before.before.before.before)).stage.price_most,
 )
 
 pub returns : goal.returns
@@ -46,5 +46,5 @@ returns c =
     let a = c.args in
     let o = c.in-Found.found in
     c.offer_answer_of.ensures
-    ∙ ap (λ (g : ClearingDays). answer (offer_refusals_of a.setup.terms a.today g.0 a.ledger.offers.count o a.price)) c.age_at-age.ensures
+    ∙ ap (λ (g : ClearingDays). answer (offer_refusals_of a.setup.terms a.today g.0 a.ledger.now.offers.count o a.price)) c.age_at-age.ensures
     ∙ sym (found_answer _ _ refl _ o (passes c.before.before.before.before.before.before.before) (finds c.before.before.before.before.before))

@@ -18,7 +18,7 @@ passes : (c : Else-member-gt-LAST_MEMBER) → answer (cancel_refusals_in c.args.
 passes c = pass 1 _ (le-ltb _ _ c.if-member-gt-LAST_MEMBER.false) ∙ all_passed
 
 -- the obligation was found
-finds : (c : In-Found) → fetched c.args.ledger c.args.obligation ≡ Found c.in-Found.found
+finds : (c : In-Found) → fetched c.args.ledger.now c.args.obligation ≡ Found c.in-Found.found
 finds c = sym c.fetch.ensures ∙ c.in-Found.is
 
 pub returns-then-member-gt-LAST_MEMBER : goal.returns-then-member-gt-LAST_MEMBER
@@ -40,7 +40,7 @@ returns-then-number-ne0 c =
     ∙ found_refused _ _ _ refused_change refl (passes c.before.before.before.before.before) _ _ _ (finds c.before.before.before) (sym c.cancel_answer_of-number.ensures) c.if-number-ne0.true
 
 pub wish-requires : goal.wish-requires
-wish-requires c = found_sound c.args.ledger c.requires c.args.obligation _ (finds c.before.before.before)
+wish-requires c = found_sound c.args.ledger.now c.requires c.args.obligation _ (finds c.before.before.before)
 
 pub returns : goal.returns
 unfolding cancel_change

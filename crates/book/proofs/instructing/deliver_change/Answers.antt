@@ -19,7 +19,7 @@ passes : (c : Else-is_outside) → answer (deliver_refusals_in c.args.quantity) 
 passes c = pass 2 _ (sym c.is_outside.ensures ∙ c.if-is_outside.false) ∙ all_passed
 
 -- the obligation was found
-finds : (c : In-Found) → fetched c.args.ledger c.args.obligation ≡ Found c.in-Found.found
+finds : (c : In-Found) → fetched c.args.ledger.now c.args.obligation ≡ Found c.in-Found.found
 finds c = sym c.fetch.ensures ∙ c.in-Found.is
 
 -- no more of it is delivered than is outstanding
@@ -27,7 +27,7 @@ takes : (c : Else-number-ne0) → Takes c.in-Found.found c.args.quantity
 unfolding deliver_refusals_of
 takes c =
     record {
-      sound = found_sound c.args.ledger c.requires c.args.obligation _ (finds c.before.before);
+      sound = found_sound c.args.ledger.now c.requires c.args.obligation _ (finds c.before.before);
       enough = ltb-false _ _ (passed 15 _ _ (sym c.deliver_answer_of-number.ensures ∙ c.if-number-ne0.false) refl).0;
     }
 
