@@ -195,8 +195,7 @@ fn tell_six<const N: usize>(six: &[u64], out: &mut Output<N>)
     requires { (length six.now ≡ 6) × (length out.old + 129 ≤ N) }
     ensures { out.new ≡ out.old ++ six_text six.now }
 {
-    out.byte(SPACE);
-    out.byte(SPACE);
+    out.bytes(b"  ");
     out.answer(six);
 }
 
