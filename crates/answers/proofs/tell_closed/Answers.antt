@@ -15,8 +15,7 @@ tell_lines-requires g c =
 
 pub tell_kept-requires : goal.tell_kept-requires
 tell_kept-requires g c =
-    let r = c.args.reported in
-    (
+    let r = c.args.reported in (
       search rules,
       grind (arith, common_steps, line_most (r.answer ∷ r.lines ∷ []), lines_most c.args.words.now r.lines),
     )

@@ -1,9 +1,7 @@
 -- As many bytes are ahead of the one that is searched for as its place says, and all of them if there is none.
-use Rattle.std.proofs.Common.{◌≡◌, ℕ, ap, arith, rules, length}
-use Rattle.std.specs.List.{position}
-use Rattle.std.specs.Prelude.{eqb, Some, None}
+use Rattle.std.proofs.Common.{arith}
 use Rattle.std.proofs.lemmas.Grind.{common_steps}
-use Rattle.basics.specs.Lists.{between, up_to}
+use Rattle.basics.specs.Lists.{between}
 use Rattle.basics.proofs.Fronts.{up_most}
 use Rattle.writing.proofs.Searching.{up_to_position}
 use Rattle.writing.proofs.place_of.Goals as goal

@@ -21,8 +21,7 @@ loop-left-preserved c =
     let left = c.loop-left.left in
     let fits = c.loop-left.auto.left-fits.fits in
     let i = c.loop-left.invariant in
-    let p = c.put_pair-first.ensures in
-    (
+    let p = c.put_pair-first.ensures in (
       i.0
           ∙ ap (λ (l : List ℕ). l ++ drop c.loop-left.first c.loop-left.places) (digits_more left c.loop-left-test.true fits)
           ∙ append_assoc (digits_of (left / 100)) _ _

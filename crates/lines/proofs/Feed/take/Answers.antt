@@ -1,5 +1,5 @@
 -- The bytes ahead are held, and they end the line if its line feed was read too.
-use Rattle.std.proofs.Common.{◌-◌, length, drop, length-take-le, length-drop, arith}
+use Rattle.std.proofs.Common.{◌-◌, drop, length-take-le, length-drop, arith}
 use Rattle.lines.specs.Input.{ended_at, goes_on}
 use Rattle.lines.proofs.Input.{end_within, taken_ended, taken_goes_on}
 use Rattle.lines.proofs.Feed.take.Goals as goal

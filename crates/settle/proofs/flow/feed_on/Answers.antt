@@ -1,6 +1,5 @@
 -- What is done depends on whether all is used up, on whether there is room, and on whether the answers could be written.
-use Rattle.std.proofs.Common.{◌≡◌, refl, sym, ◌∙◌, true, false}
-use Rattle.lines.specs.Input.{used_up}
+use Rattle.std.proofs.Common.{refl, sym, ◌∙◌}
 use Rattle.settle.specs.Flow.FedOn.{ready, cleared, uncleared, fed, unfed}
 use Rattle.settle.proofs.flow.feed_on.Goals as goal
 

@@ -1,5 +1,5 @@
 -- The text of the answer follows what waits in the output, and there is room for the longest answer.
-use Rattle.std.proofs.Common.{refl, ap, ◌∙◌, ◌++◌, length, length-append, arith}
+use Rattle.std.proofs.Common.{refl, ap, ◌∙◌, length, length-append, arith}
 use Rattle.answers.proofs.Lengths.{answer_most}
 use Rattle.answers.specs.Text.{answer_text}
 use Rattle.settle.proofs.flow.tell.Goals as goal

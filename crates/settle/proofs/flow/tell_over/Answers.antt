@@ -1,5 +1,5 @@
 -- After the answer to a torn line there is room for the line `end`.
-use Rattle.std.proofs.Common.{sym, ap, ◌∙◌, ◌++◌, List, ℕ, take, arith, rules, append_assoc}
+use Rattle.std.proofs.Common.{ap, ◌∙◌, ◌++◌, List, ℕ, take, arith, rules, append_assoc}
 use Rattle.std.proofs.lemmas.Grind.{common_steps}
 use Rattle.lines.specs.Input.{lines_of}
 use Rattle.writing.specs.Answers.{end_of}

@@ -1,5 +1,5 @@
 -- The first byte of a torn line decides whether it is a comment.
-use Rattle.std.proofs.Common.{◌≡◌, ◌<◌, ◌∙◌, sym, ap, ◌++◌, List, ℕ, [], length, append-nil, arith, rules}
+use Rattle.std.proofs.Common.{◌≡◌, ◌<◌, sym, length, append-nil, rules}
 use Rattle.settle.proofs.Endings.{torn_none, torn_comment, torn_answered}
 use Rattle.settle.proofs.flow.tell_torn.Goals as goal
 use Rattle.settle.proofs.flow.tell_torn.Goals.{else-not-is_empty-via-then-not-is_empty+else-torn-ne35, else-not-is_empty-via-else-not-is_empty}

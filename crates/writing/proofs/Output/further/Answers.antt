@@ -1,8 +1,7 @@
 -- There is room for one more number.
-use Rattle.std.proofs.Common.{arith, rules, sym, ap, ◌++◌, ◌∷◌, ◌∙◌, append-nil, append_assoc, length-take-le, map, take}
+use Rattle.std.proofs.Common.{arith, rules, sym, append-nil, length-take-le, take}
 use Rattle.std.proofs.lemmas.Grind.{common_steps}
-use Rattle.writing.specs.Digits.{digits_of}
-use Rattle.writing.specs.Words.{space, spaced}
+use Rattle.writing.specs.Words.{spaced}
 use Rattle.writing.proofs.Writing.{spaced_more, spaced_most}
 use Rattle.writing.proofs.Output.further.Goals as goal
 
