@@ -6,7 +6,8 @@ use Rattle.writing.proofs.Digits.{digits_most, signed_most}
 use Rattle.writing.proofs.Writing.{spaced_most, text_most, line_most, labelled_most, no_call_most}
 use Rattle.answers.specs.declared.Reported.{Reported}
 use Rattle.answers.specs.declared.Answer.{Answer}
-use Rattle.answers.specs.declared.Answer.TheVariants.{Nothing, NoCall, Numbers, Balance, Closed, Words}
+use Rattle.answers.specs.declared.Answer.TheVariants.{Nothing, NoCall, Shown, Balance, Closed, Words}
+use Rattle.answers.specs.Told.{listed}
 use Rattle.answers.specs.Text.{most_answer, WithinLent, Tellable, balance_text, six_text, lines_text, kept_of, kept_text, closed_text, words_text, answer_text}
 
 -- an answer number and signed cents
@@ -66,8 +67,16 @@ pub answer_most : (a : Answer) (line : ℕ) (words : List ℕ) → Tellable a wo
 unfolding answer_text
 answer_most Nothing line words t = omega arith
 answer_most NoCall line words t = omega (arith, no_call_most line)
-answer_most (Numbers shown) line words t = omega (arith, line_most shown, t)
+answer_most (Shown numbers) line words t =
+    omega (arith, line_most (listed numbers), length-take numbers.count numbers.places, t)
 answer_most (Balance answer cents) line words t = omega (arith, balance_most answer cents)
 answer_most (Closed r) line words t = closed_most r words t
-answer_most (Words shown lent) line words t =
-    omega (arith, words_most shown (take lent words), length-take lent words, t.0, t.1.few)
+answer_most (Words numbers lent) line words t =
+    omega (
+      arith,
+      words_most (listed numbers) (take lent words),
+      length-take numbers.count numbers.places,
+      length-take lent words,
+      t.0,
+      t.1.few,
+    )

@@ -1,5 +1,6 @@
 -- Which answers can be written.
-use Rattle.std.proofs.Common.{◌≡◌, ℕ, ◌*◌, ◌≤◌, List, refl, length}
+use Rattle.std.proofs.Common.{◌≡◌, ℕ, ◌*◌, ◌≤◌, List, refl, ap, length}
+use Rattle.std.proofs.Math.Seq.{take_at}
 use Rattle.std.specs.Prelude.{ℤ}
 use Rattle.writing.specs.Answers.{answer_of}
 use Rattle.answers.specs.Text.{most_lent, Tellable, answer_text}
@@ -38,6 +39,7 @@ unfolding words_told
 words_tells shown lent words h m w = (h, record { few = m; within = w })
 
 -- the text of an answer number with results has exactly these numbers
-pub numbers_shown : (shown words : List ℕ) (line : ℕ) → answer_text (numbers_told shown) line words ≡ answer_of shown
+pub numbers_shown : (shown words : List ℕ) (line : ℕ) → length shown ≤ most_shown
+    → answer_text (numbers_told shown) line words ≡ answer_of shown
 unfolding answer_text numbers_told
-numbers_shown shown words line = refl
+numbers_shown shown words line h = ap answer_of (take_at shown _ (length shown) refl)

@@ -6,8 +6,8 @@ use Rattle.writing.specs.Words.{space, spaced}
 use Rattle.writing.specs.Answers.{line_feed, text_of, answer_of, labelled, no_call_of}
 use Rattle.answers.specs.declared.Reported.{Reported}
 use Rattle.answers.specs.declared.Answer.{Answer}
-use Rattle.answers.specs.declared.Answer.TheVariants.{Nothing, NoCall, Numbers, Balance, Closed, Words}
-use Rattle.answers.specs.Told.{most_shown}
+use Rattle.answers.specs.declared.Answer.TheVariants.{Nothing, NoCall, Shown, Balance, Closed, Words}
+use Rattle.answers.specs.Told.{most_shown, listed}
 
 -- the most words that are lent to a call: 4,096
 abbrev pub most_lent : ℕ
@@ -32,10 +32,10 @@ pub record WithinLent (r : Reported) (words : List ℕ) : Type 0 where
 abbrev pub Tellable : Answer → List ℕ → Type 0
 Tellable Nothing words = Unit {0}
 Tellable NoCall words = Unit {0}
-Tellable (Numbers shown) words = length shown ≤ most_shown
+Tellable (Shown numbers) words = numbers.count ≤ most_shown
 Tellable (Balance answer cents) words = Unit {0}
 Tellable (Closed r) words = WithinLent r words
-Tellable (Words shown lent) words = (length shown ≤ most_shown) × Lent lent words
+Tellable (Words numbers lent) words = (numbers.count ≤ most_shown) × Lent lent words
 
 -- the text of the answer to an Account: the answer number, signed cents, and a line feed
 unfoldable pub balance_text : ℕ → ℤ → List ℕ
@@ -76,7 +76,7 @@ words_text shown words = text_of shown ++ spaced (map digits_of words) ++ line_f
 unfoldable pub answer_text : Answer → ℕ → List ℕ → List ℕ
 answer_text Nothing line words = []
 answer_text NoCall line words = no_call_of line
-answer_text (Numbers shown) line words = answer_of shown
+answer_text (Shown numbers) line words = answer_of (listed numbers)
 answer_text (Balance answer cents) line words = balance_text answer cents
 answer_text (Closed r) line words = closed_text r words
-answer_text (Words shown lent) line words = words_text shown (take lent words)
+answer_text (Words numbers lent) line words = words_text (listed numbers) (take lent words)

@@ -1,12 +1,11 @@
 // The answers to the lines of a journal, and how each is written as text.
 #![tactic(auto)]
 
-ghost use Rattle.std.specs.Prelude.{List, ℕ, ◌+◌, ◌*◌, ◌<◌, ◌≤◌, ◌≡◌, ◌++◌, length, take, drop};
-ghost use Rattle.answers.specs.Told.{most_shown, nothing, no_call, numbers_told, balance_told, closed_told, words_told};
+ghost use Rattle.std.specs.Prelude.{◌+◌, ◌*◌, ◌<◌, ◌≤◌, ◌≡◌, ◌++◌, length, take, drop};
+ghost use Rattle.answers.specs.Told.{most_shown, numbers_of, listed, nothing, no_call, numbers_told, balance_told, closed_told, words_told};
 ghost use Rattle.answers.specs.Text.{most_answer, Tellable, WithinLent, balance_text, six_text, lines_text, kept_of};
 ghost use Rattle.answers.specs.Text.{kept_text, closed_text, words_text, answer_text};
 
-use std::marker::Model;
 use writing::{Output, SPACE};
 
 // The most bytes of an answer: 22 for each of the most words that are lent, and 100 more.
@@ -15,27 +14,18 @@ pub const MOST_ANSWER: usize = 90_212;
 // The most numbers that an answer shows: those of a Status.
 pub const MOST_SHOWN: usize = 7;
 
-// The numbers that an answer shows. Clauses see the list of them.
-#[derive(Drop)]
+// The numbers that an answer shows. They have no model that hides the places, because the check does not cover the loop
+// of `settle` if it copies a value with a model.
+#[derive(Clone, Copy)]
 pub struct Numbers {
-    places: [u64; MOST_SHOWN],
-    count: usize,
-}
-
-impl Model for Numbers {
-    ghost use Rattle.std.specs.Prelude.{List, ℕ, ◌≤◌, take};
-
-    ghost Value = { List ℕ };
-
-    ghost view = { λ n. take n.count n.places };
-
-    ghost invariant = { λ n. n.count ≤ 7 };
+    pub places: [u64; MOST_SHOWN],
+    pub count: usize,
 }
 
 impl Numbers {
     fn of(shown: &[u64]) -> Numbers
         requires { length shown.now ≤ most_shown }
-        ensures { result ≡ shown.now }
+        ensures { result ≡ numbers_of shown.now }
     {
         let count = shown.len();
         let mut places = [0; MOST_SHOWN];
@@ -44,8 +34,8 @@ impl Numbers {
     }
 
     fn listed(&self) -> &[u64]
-        ensures listed { result.now ≡ self.now }
-        ensures few { length self.now ≤ most_shown }
+        requires { self.now.count ≤ most_shown }
+        ensures { result.now ≡ listed self.now }
     {
         &self.places[..self.count]
     }
@@ -62,14 +52,14 @@ pub struct Reported {
 }
 
 // The answer to a line.
-#[derive(Drop)]
+#[derive(Clone, Copy)]
 pub enum Answer {
     // There is no answer, as to a comment.
     Nothing,
     // The line is no call.
     NoCall,
     // An answer number and results.
-    Numbers(Numbers),
+    Shown(Numbers),
     // An answer number and signed cents.
     Balance(u64, i64),
     // An answer number, how many lines there are, the lines, and how many words are kept.
@@ -101,7 +91,7 @@ impl Answer {
         requires { length shown.now ≤ most_shown }
         ensures { result ≡ numbers_told shown.now }
     {
-        Answer::Numbers(Numbers::of(shown))
+        Answer::Shown(Numbers::of(shown))
     }
 
     // An answer number and signed cents.
@@ -144,7 +134,7 @@ impl Answer {
         match self {
             Answer::Nothing => {}
             Answer::NoCall => out.no_call(line),
-            Answer::Numbers(numbers) => out.answer(numbers.listed()),
+            Answer::Shown(numbers) => out.answer(numbers.listed()),
             Answer::Balance(answer, cents) => tell_balance(*answer, *cents, out),
             Answer::Closed(reported) => tell_closed(*reported, words, out),
             Answer::Words(numbers, lent) => tell_words(numbers.listed(), &words[..*lent], out),

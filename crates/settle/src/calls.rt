@@ -34,7 +34,7 @@ pub struct Asked {
 }
 
 // The book after a line, and the answer to the line.
-#[derive(Drop)]
+#[derive(Clone, Copy)]
 pub struct Played {
     pub book: Book,
     pub answer: Answer,

@@ -188,12 +188,12 @@ pub fn take(flow: Flow, part: &[u8], line: &mut [u8]) -> Taken
 pub fn tell<const N: usize>(
     flow: Flow,
     taken: Taken,
-    answer: &Answer,
+    answer: Answer,
     words: &[u64],
     out: &mut Output<N>,
 ) -> Flow
-    requires { (Tellable answer.now words.now) × (length out.old + most_answer ≤ N) }
-    ensures { ToldOn flow taken (answer_text answer.now taken.feed.ended words.now) N out.old out.new result }
+    requires { (Tellable answer words.now) × (length out.old + most_answer ≤ N) }
+    ensures { ToldOn flow taken (answer_text answer taken.feed.ended words.now) N out.old out.new result }
 {
     let feed = taken.feed;
     answer.tell(feed.ended, words, out);

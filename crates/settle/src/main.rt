@@ -34,8 +34,9 @@ fn turns_left(turns: u64, course: Course) -> u64
 
 // Plays the journal. A proved loop has to end, but a journal may go on for ever. So the loop counts its turns down from
 // a number that no run uses up. A turn takes bytes of one line, and plays the line if it has ended. The calls are made
-// here and not in a function of their own, because the book would be copied once more on its way to that function. What
-// is in the output in the end is still to be written. If the whole journal was played, it ends with the line `end`.
+// here and not in a function of their own, because the book would be copied once more on its way to that function. The
+// answer is handed on by value, since the book beside it would be copied once more if the answer were lent. What is in
+// the output in the end is still to be written. If the whole journal was played, it ends with the line `end`.
 fn settle_all<const N: usize>(
     streams: Streams,
     part: &mut [u8],
@@ -80,7 +81,7 @@ fn settle_all<const N: usize>(
             Line::Comment => played.answer = Answer::nothing(),
             Line::NoCall => played.answer = Answer::no_call(),
         }
-        flow = flow::tell(fed, taken, &played.answer, words, out);
+        flow = flow::tell(fed, taken, played.answer, words, out);
         let course = flow.course;
         turns = turns_left(turns, course);
     }

@@ -8,6 +8,6 @@ pub returns : goal.returns
 returns g c =
     let wrote = c.tell.ensures in
     let line = c.args.taken.feed.ended in
-    let most = answer_most c.args.answer.now line c.args.words.now c.requires.0 in
-    let long = ap length wrote ∙ length-append c.args.out.now (answer_text c.args.answer.now line c.args.words.now) in
+    let most = answer_most c.args.answer line c.args.words.now c.requires.0 in
+    let long = ap length wrote ∙ length-append c.args.out.now (answer_text c.args.answer line c.args.words.now) in
     record { wrote = wrote; fits = omega (arith, long, most, c.requires.1); next = refl; same = refl }
