@@ -1,5 +1,5 @@
 -- Quotients, rounded to the nearest and with their remainder.
-use Rattle.std.specs.Prelude.{ℕ, ◌+◌, ◌/◌, ◌%◌, ◌^◌, ◌≤◌, ◌<◌}
+use Rattle.std.specs.Prelude.{ℕ, ◌+◌, ◌/◌, ◌%◌}
 use Rattle.amounts.specs.declared.Divided.{Divided}
 
 -- C4 and C10, Close: the quotient n / d, rounded to the nearest whole number; an exact half goes up
@@ -9,10 +9,3 @@ rounded n d = (n + d / 2) / d
 -- M5 and M6, Month: the quotient n / d, rounded down, and the remainder
 abbrev pub divided : ℕ → ℕ → Divided
 divided n d = record { quotient = n / d; remainder = n % d }
-
--- What the division of c × g by the whole requires so that nothing exceeds 64 bits: c is a part of the whole, and the
--- whole is at most 2 ^ 48.
-pub record Part (c whole : ℕ) : Type 0 where
-  pub some : 0 < whole
-  pub within : c ≤ whole
-  pub small : whole ≤ 2 ^ 48

@@ -5,7 +5,7 @@
 
 ghost use Rattle.std.specs.Prelude.{◌≡◌, ◌+◌, ◌-◌, ◌*◌, ◌/◌, ◌≤◌, ◌<◌, ◌^◌};
 ghost use Rattle.amounts.specs.Amounts.{most_quantity, most_amount, most_close_price, most_offer_price, most_rate, value, penalty, compensation, due_for, cash, charge, tolerance, amounts_match, above_cap};
-ghost use Rattle.amounts.specs.Quotients.{rounded, divided, Part};
+ghost use Rattle.amounts.specs.Quotients.{rounded, divided};
 
 // The limits of refusals 2 and 3. Each has its definition in specs/ under the same name, as `most_quantity`.
 pub const MOST_QUANTITY: u64 = 100_000;
@@ -33,9 +33,6 @@ const WIDE_TOLERANCE: u64 = 2_500;
 
 // The cap is 108 hundredths of the price of the Close at age = grace.
 const CAP_HUNDREDTHS: u64 = 108;
-
-// A quotient of products is worked out digit by digit in this base.
-const BASE: u64 = 32_768;
 
 // A quotient and its remainder.
 #[derive(Clone, Copy)]
@@ -104,8 +101,7 @@ pub fn charge_for(q: u64, price: u64, cash: u64) -> u64
     requires { (q ≤ most_quantity) × (price ≤ most_offer_price) }
     ensures { result ≡ charge q price cash }
 {
-    let worth = value_of(q, price);
-    if cash < worth { worth - cash } else { 0 }
+    value_of(q, price).saturating_sub(cash)
 }
 
 // Returns the tolerance of a match.
@@ -125,11 +121,7 @@ pub fn tolerance_of(delivering: u64) -> u64
 pub fn amounts_match(delivering: u64, receiving: u64) -> bool
     ensures { result ≡ amounts_match delivering receiving }
 {
-    let most = tolerance_of(delivering);
-    if delivering < receiving {
-        return receiving - delivering <= most;
-    }
-    delivering - receiving <= most
+    delivering.abs_diff(receiving) <= tolerance_of(delivering)
 }
 
 // Says whether the price of an offer is above the cap.
@@ -141,23 +133,22 @@ pub fn above_cap(price: u64, grace_price: u64) -> bool
     CAP_HUNDREDTHS * grace_price < 100 * price
 }
 
-// Returns the quotient and the remainder of part × factor by whole. The product may exceed 64 bits. So the function
-// takes the factor digit by digit in base 32,768, as in long division: each call has one digit less.
-#[tactic(auto, using(crate::proofs::Products::quotient_most, crate::proofs::Products::step_is))]
+// Returns the quotient and the remainder of part × factor by whole; both are 0 where the whole is 0. The product may
+// exceed 64 bits, so it has 128. The part is no more than the whole, so the quotient fits 64 bits again.
 pub fn product_divided(part: u64, factor: u64, whole: u64) -> Divided
-    requires { Part part whole }
+    requires { part ≤ whole }
     ensures { result ≡ divided (part * factor) whole }
 {
-    if factor == 0 {
+    if whole == 0 {
         return Divided {
             quotient: 0,
             remainder: 0,
         };
     }
-    let front = product_divided(part, factor / BASE, whole);
-    let rest = front.remainder * BASE + part * (factor % BASE);
+    let product = u128::from(part) * u128::from(factor);
+    let divisor = u128::from(whole);
     Divided {
-        quotient: front.quotient * BASE + rest / whole,
-        remainder: rest % whole,
+        quotient: (product / divisor) as u64,
+        remainder: (product % divisor) as u64,
     }
 }

@@ -1,5 +1,6 @@
 -- What a Close and an Again leave: a valid book, and lines that fit the list. After a Close each obligation whose J has
 -- come is a day older.
+use Rattle.std.specs.Prelude.{Option, Some, None}
 use Prim.Native.Nat.{ℕ, ◌*◌, ◌≤◌, ◌<◌}
 use native.Mathlib.Omega.{arith}
 use mathlib.Core.Path.{◌≡◌, refl, sym, ap, subst⁻¹, ◌∙◌}
@@ -13,8 +14,6 @@ use Rattle.basics.specs.Refusals.{answer}
 use Rattle.basics.proofs.Cases.{below_or_not}
 use Rattle.basics.proofs.Refusals.{done_by, refused_with}
 use Rattle.calendar.specs.declared.Day.{Day}
-use Rattle.calendar.specs.declared.NextDay.{NextDay}
-use Rattle.calendar.specs.declared.NextDay.TheVariants.{At, Never}
 use Rattle.calendar.specs.Days.{age_at}
 use Rattle.calendar.proofs.Next.{FirstAfter, next_at}
 use Rattle.calendar.proofs.Ages.{age_next, age_to_come}
@@ -115,7 +114,7 @@ module _ (b : Book) (v : Valid b) (d : DayEnd) (e : Ends b d) where
       (λ (z : o.parts.outstanding ≤ 0). omega (arith, (after_goes n h).later.less))
       (below_or_not 0 o.parts.outstanding)
 
-  module _ (next : Day) (q : next_day b ≡ At next) where
+  module _ (next : Day) (q : next_day b ≡ Some next) where
     abbrev first : FirstAfter (closed_of b) (today_of b).0 next.0
     first = (next_at (closed_of b) (today_of b) next q).0
 
@@ -169,12 +168,12 @@ refused_end b v price n ws r same e z = record {
   valid = subst⁻¹ (λ (x : Closed). Valid x.book) same v;
 }
   where
-    by : (t : NextDay) → answer (close_refusals price (length ws) t (force_of b)) ≡ n → close_refused b n ≡ close_by b price (length ws) t
-    by Never e = ap (close_refused b) (sym e)
-    by (At next) e = refused_with n (close_refusals price (length ws) (At next) (force_of b)) _ (close_refused b) e z
+    by : (t : Option Day) → answer (close_refusals price (length ws) t (force_of b)) ≡ n → close_refused b n ≡ close_by b price (length ws) t
+    by None e = ap (close_refused b) (sym e)
+    by (Some next) e = refused_with n (close_refusals price (length ws) (Some next) (force_of b)) _ (close_refused b) e z
 
 -- done, with the ledger that the Close of the book's ledger gave, and with the lines that were then read from the list
-module _ (b : Book) (v : Valid b) (price : ℕ) (ws : List ℕ) (e : answer (close_refusals_in price (length ws)) ≡ 0) (next : Day) (q : next_day b ≡ At next) (f : is_unset (force_of b) ≡ false) (d : DayEnd) (same_end : d ≡ day_end b price) where
+module _ (b : Book) (v : Valid b) (price : ℕ) (ws : List ℕ) (e : answer (close_refusals_in price (length ws)) ≡ 0) (next : Day) (q : next_day b ≡ Some next) (f : is_unset (force_of b) ≡ false) (d : DayEnd) (same_end : d ≡ day_end b price) where
   abbrev ends : Ends b d
   ends = subst⁻¹ (Ends b) same_end (close_ends b v price (length ws) e)
 
@@ -192,7 +191,7 @@ module _ (b : Book) (v : Valid b) (price : ℕ) (ws : List ℕ) (e : answer (clo
   unfolding close close_by
   close_done_lem =
       ap (λ (x : DayEnd). close_done b x next) same_end
-      ∙ rw q (done_by (close_refusals price (length ws) (At next) (force_of b)) (close_done b (day_end b price) next) (close_refused b) (close_at price (length ws) (At next) (force_of b) next refl f e))
+      ∙ rw q (done_by (close_refusals price (length ws) (Some next) (force_of b)) (close_done b (day_end b price) next) (close_refused b) (close_at price (length ws) (Some next) (force_of b) next refl f e))
 
   module _ (l : Ledger) (count : ℕ) (ws' : List ℕ) (c : ClosedAs (closed_ledger d b.ledger) lines l count ws ws') where
     -- the lines of the Close are read from its list

@@ -1,7 +1,7 @@
 -- What holds of a refused call and of one that is done holds of its outcome. The calls here go by the answer of a fetch
 -- or by the next clearing day, and one that is done has found what it asked for.
+use Rattle.std.specs.Prelude.{Option, Some, None}
 use Prim.Native.Nat.{ℕ, ◌≤◌, ◌<◌}
-use Rattle.std.specs.Prelude.{Some}
 use mathlib.Core.Path.{◌≡◌, refl, sym}
 use mathlib.Core.Bool.{false, false≢true}
 use mathlib.Core.List.{List}
@@ -10,8 +10,6 @@ use Rattle.basics.specs.Refusals.{answer, outcome}
 use Rattle.basics.proofs.Cases.{never}
 use Rattle.basics.proofs.Refusals.{passed, by_number, by_number₂}
 use Rattle.calendar.specs.declared.Day.{Day}
-use Rattle.calendar.specs.declared.NextDay.{NextDay}
-use Rattle.calendar.specs.declared.NextDay.TheVariants.{At, Never}
 use Rattle.instructions.specs.Legs.{leg_at}
 use Rattle.instructions.proofs.Fetching.{fetched_leg_case}
 use Rattle.ledger.specs.Lines.{fewest_words}
@@ -57,7 +55,7 @@ close_ends b v price words e =
 -- the list is long enough
 pub record Closing (b : Book) (price : ℕ) (ws : List ℕ) (next : Day) : Type 0 where
   pub ends : Ends b (day_end b price)
-  pub on : next_day b ≡ At next
+  pub on : next_day b ≡ Some next
   pub rate : is_unset (force_of b) ≡ false
   pub long : fewest_words ≤ length ws
 
@@ -114,18 +112,18 @@ module _ (b : Book) where
       lines : List ℕ
       lines = written (close_lines d b.ledger) ws
 
-      number : NextDay → ℕ
+      number : Option Day → ℕ
       number t = answer (close_refusals price (length ws) t (force_of b))
 
-      by : (t : NextDay) → next_day b ≡ t → P (close_by b price (length ws) t) (outcome (number t) lines (λ k. ws))
-      by Never q =
-          by_number (λ (us : List ℕ). P (close_refused b (number Never)) us) (number Never) lines (λ k. ws)
-          (λ z. f (number Never) z) (λ e. absurd (never (sym (close_passed price (length ws) Never (force_of b) e).next_day)))
-      by (At next) q =
-          by_number₂ P (number (At next)) (close_done b d next) (close_refused b) lines (λ k. ws)
-          (λ z. f (number (At next)) z)
+      by : (t : Option Day) → next_day b ≡ t → P (close_by b price (length ws) t) (outcome (number t) lines (λ k. ws))
+      by None q =
+          by_number (λ (us : List ℕ). P (close_refused b (number None)) us) (number None) lines (λ k. ws)
+          (λ z. f (number None) z) (λ e. absurd (never (sym (close_passed price (length ws) None (force_of b) e).next_day)))
+      by (Some next) q =
+          by_number₂ P (number (Some next)) (close_done b d next) (close_refused b) lines (λ k. ws)
+          (λ z. f (number (Some next)) z)
           (λ e.
-          let p = close_passed price (length ws) (At next) (force_of b) e in
+          let p = close_passed price (length ws) (Some next) (force_of b) e in
           g next (record {
             ends = close_ends b v price (length ws) p.input;
             on = q;

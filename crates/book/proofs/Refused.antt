@@ -7,8 +7,6 @@ use mathlib.Core.List.{List, [], ◌∷◌}
 use Rattle.basics.specs.Refusals.{refuse}
 use Rattle.basics.proofs.Refusals.{Refuses, is_printed, outcome_refuses}
 use Rattle.calendar.specs.declared.Day.{Day}
-use Rattle.calendar.specs.declared.NextDay.{NextDay}
-use Rattle.calendar.specs.declared.NextDay.TheVariants.{At, Never}
 use Rattle.instructions.specs.declared.Leg.{Leg}
 use Rattle.instructions.specs.Legs.{fetched_leg}
 use Rattle.instructions.specs.Match.{Fit, lowest_fit}
@@ -91,10 +89,10 @@ module _ (b : Book) where
   unfolding close close_by close_refusals close_refusals_in
   close_refuses price words = by (next_day b)
     where
-      by : (t : NextDay) → Refuses (close_refusals price words t (force_of b)) (close_by b price words t).answer
-      by Never = record { printed = is_printed (close_refusals price words Never (force_of b)) refl; given = refl }
-      by (At next) =
-          outcome_refuses (λ (r : Closed). r.answer) (close_refusals price words (At next) (force_of b)) _ (close_refused b) refl refl (λ k. refl)
+      by : (t : Option Day) → Refuses (close_refusals price words t (force_of b)) (close_by b price words t).answer
+      by None = record { printed = is_printed (close_refusals price words None (force_of b)) refl; given = refl }
+      by (Some next) =
+          outcome_refuses (λ (r : Closed). r.answer) (close_refusals price words (Some next) (force_of b)) _ (close_refused b) refl refl (λ k. refl)
 
   pub again_refuses : (words : ℕ) → Refuses (again_refusals b.day.has_closed words) (again b words).answer
   unfolding again again_refusals

@@ -1,10 +1,7 @@
 -- Buy-in: the call Offer.
 use Rattle.std.specs.Prelude.{ℕ, List}
-use Rattle.basics.specs.Refusals.{Refusal, answer}
-use Rattle.calendar.specs.declared.Day.{Day}
-use Rattle.ledger.specs.declared.Setup.{Setup}
+use Rattle.basics.specs.Refusals.{Refusal}
 use Rattle.ledger.specs.declared.Obligation.{Obligation}
-use Rattle.ledger.specs.declared.Fetched.{Fetched}
 use Rattle.ledger.specs.Obligations.{age_by}
 use Rattle.ledger.specs.Ledger.{fetched, with_offer_for}
 use Rattle.book.specs.declared.Book.{Book}
@@ -13,19 +10,9 @@ use Rattle.refusals.specs.Calls.{fetch_refusals, fetch_outcome, offer_refusals_i
 use Rattle.book.specs.Book.{with_ledger, today_of}
 use Rattle.book.specs.Instructing.{done_refused}
 
--- A11, Refusals: the refusals of Offer on the obligation that was found, with this setup, on this day and with this
--- many offers
-abbrev pub offer_refusals_by : Setup → Day → ℕ → ℕ → Obligation → List Refusal
-offer_refusals_by setup today offers price o = offer_refusals_of setup.terms today (age_by setup today o) offers o price
-
 -- A11, Refusals: the refusals of Offer on the obligation that was found in the book
 abbrev pub offer_refusals_for : Book → ℕ → Obligation → List Refusal
-offer_refusals_for b price o = offer_refusals_by b.setup (today_of b) b.ledger.offers.count price o
-
--- A11, Refusals: the answer number of Offer by what was fetched, with this setup, on this day and with this many offers
-unfoldable pub offer_answer_by : Setup → Day → ℕ → ℕ → ℕ → ℕ → Fetched → ℕ
-offer_answer_by setup today offers supplier q price f =
-    answer (fetch_refusals (offer_refusals_in supplier q price) f (offer_refusals_by setup today offers price))
+offer_refusals_for b price o = offer_refusals_of b.setup.terms (today_of b) (age_by b.setup (today_of b) o) b.ledger.offers.count o price
 
 -- A11, Refusals: all refusals of Offer
 unfoldable pub offer_refusals : Book → ℕ → ℕ → ℕ → ℕ → List Refusal

@@ -1,14 +1,12 @@
 -- The call Close.
-use Rattle.std.specs.Prelude.{ℕ, true, List, length}
+use Rattle.std.specs.Prelude.{ℕ, true, List, length, Option, Some, None}
 use Rattle.basics.specs.Refusals.{answer, outcome}
 use Rattle.calendar.specs.declared.Day.{Day}
-use Rattle.calendar.specs.declared.NextDay.{NextDay}
-use Rattle.calendar.specs.declared.NextDay.TheVariants.{At, Never}
 use Rattle.calendar.specs.Days.{next_after}
 use Rattle.closing.specs.declared.DayEnd.{DayEnd}
 use Rattle.closing.specs.Lines.{written}
 use Rattle.closing.specs.Close.{close_lines, closed_ledger}
-use Rattle.rates.specs.declared.InForce.{InForce}
+use Rattle.rates.specs.declared.RateRow.{RateRow}
 use Rattle.rates.specs.Rows.{listed_rates}
 use Rattle.rates.specs.Force.{in_force, rate_of}
 use Rattle.reprint.specs.Kept.{kept_from}
@@ -19,11 +17,11 @@ use Rattle.book.specs.declared.Closed.{Closed}
 use Rattle.book.specs.Book.{with_day, with_last, closed_of, today_of}
 
 -- D4, Days and units: the next clearing day after the book's today
-abbrev pub next_day : Book → NextDay
+abbrev pub next_day : Book → Option Day
 next_day b = next_after (closed_of b) (today_of b)
 
 -- F6, Rates: the row of the book that is in force on its today
-abbrev pub force_of : Book → InForce
+abbrev pub force_of : Book → Option RateRow
 force_of b = in_force (today_of b) (listed_rates b.rates)
 
 -- C1, Close: what a Close works with: the setup of the book, its today, the price of the Close and the rate in force
@@ -53,10 +51,10 @@ close_done b d next = record { answer = 0; count = length (close_lines d b.ledge
 
 -- C17, Close; R20 and R26, Refusals: what Close returns, by the next clearing day after today and with this many words
 -- lent. If there is none, the call is refused. If there is one, the call is done or refused.
-unfoldable pub close_by : Book → ℕ → ℕ → NextDay → Closed
-close_by b price words Never = close_refused b (answer (close_refusals price words Never (force_of b)))
-close_by b price words (At next) =
-    outcome (answer (close_refusals price words (At next) (force_of b))) (close_done b (day_end b price) next) (close_refused b)
+unfoldable pub close_by : Book → ℕ → ℕ → Option Day → Closed
+close_by b price words None = close_refused b (answer (close_refusals price words None (force_of b)))
+close_by b price words (Some next) =
+    outcome (answer (close_refusals price words (Some next) (force_of b))) (close_done b (day_end b price) next) (close_refused b)
 
 -- C1 to C17, Close: what Close returns, with this many words lent
 unfoldable pub close : Book → ℕ → ℕ → Closed

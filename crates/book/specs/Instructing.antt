@@ -6,7 +6,7 @@ use Rattle.instructions.specs.declared.Leg.{Leg}
 use Rattle.instructions.specs.declared.Legs.{Legs}
 use Rattle.instructions.specs.declared.LegState.TheVariants.{Withdrawn}
 use Rattle.instructions.specs.declared.Entry.{Entry}
-use Rattle.instructions.specs.declared.Entry.TheVariants.{Refused, Alone, Matching}
+use Rattle.instructions.specs.declared.Entry.TheVariants.{Alone, Matching}
 use Rattle.instructions.specs.Legs.{most_legs, is_waiting, leg_of, leg_at, fetched_leg, with_state}
 use Rattle.instructions.specs.Match.{Fit, delivering, receiving, lowest_fit}
 use Rattle.instructions.specs.Entry.{with_entry, leg_number, obligation_number}
@@ -14,9 +14,8 @@ use Rattle.ledger.specs.declared.Part.TheVariants as part
 use Rattle.ledger.specs.declared.Obligation.{Obligation}
 use Rattle.ledger.specs.declared.Ledger.{Ledger}
 use Rattle.ledger.specs.declared.Fetched.{Fetched}
-use Rattle.ledger.specs.declared.Change.{Change}
 use Rattle.ledger.specs.Obligations.{new_obligation, cash_of, moving, wishing, moved_by_wish}
-use Rattle.ledger.specs.Ledger.{most_obligations, fetched, with_obligation, refused_change, with_new}
+use Rattle.ledger.specs.Ledger.{most_obligations, fetched, with_obligation, Effect, refused_change, with_new}
 use Rattle.book.specs.declared.Book.{Book}
 use Rattle.book.specs.declared.Entered.{Entered}
 use Rattle.book.specs.declared.Done.{Done}
@@ -43,16 +42,13 @@ obligation_of new old =
       day = new.day;
     })
 
--- E8, Enter: the ledger after an Enter. A leg that matches one of these legs makes an obligation. A refused Enter
--- leaves the ledger as it is (A5).
+-- E8, Enter: the ledger after an Enter. A leg that matches one of these legs makes an obligation.
 abbrev pub with_match : Legs → Entry → Ledger → Ledger
-with_match legs Refused l = l
 with_match legs (Alone new) l = l
 with_match legs (Matching new k) l = with_new (obligation_of new (leg_at legs k)) l
 
 -- what is required so that the ledger can take the obligation of a match
 abbrev pub Matchable : Entry → Ledger → Type 0
-Matchable Refused l = Unit {0}
 Matchable (Alone new) l = Unit {0}
 Matchable (Matching new k) l = (k < most_legs) × (l.count < most_obligations)
 
@@ -60,10 +56,10 @@ Matchable (Matching new k) l = (k < most_legs) × (l.count < most_obligations)
 abbrev pub entered_book : Book → Entry → Book
 entered_book b e = with_legs (with_entry e b.ledger.count b.legs) (with_ledger (with_match b.legs e b.ledger) b)
 
--- E11, Enter; A5, Refusals: what an Enter with this answer number returns
-abbrev pub enter_returns : Book → ℕ → Entry → Entered
-enter_returns b number e = record {
-  answer = number;
+-- E11, Enter: what an accepted Enter returns
+abbrev pub enter_returns : Book → Entry → Entered
+enter_returns b e = record {
+  answer = 0;
   leg = leg_number e b.legs.count;
   obligation = obligation_number e b.ledger.count;
   book = entered_book b e;
@@ -71,11 +67,11 @@ enter_returns b number e = record {
 
 -- E10 and E11, Enter: what Enter returns if no leg fits: the new one waits
 unfoldable pub entered_alone : Book → Leg → Entered
-entered_alone b new = enter_returns b 0 (Alone new)
+entered_alone b new = enter_returns b (Alone new)
 
 -- E8, E10 and E11, Enter: what Enter returns if leg k fits: both are matched to a new obligation
 unfoldable pub entered_with : Book → Leg → ℕ → Entered
-entered_with b new k = enter_returns b 0 (Matching new k)
+entered_with b new k = enter_returns b (Matching new k)
 
 -- E10, Enter: what an accepted Enter returns, by the search for the leg that the new one matches
 abbrev pub entered_by : Book → Leg → Fit → Entered
@@ -133,7 +129,7 @@ cancel_refused b n = record { answer = n; moved = 0; book = b }
 
 -- K1 to K3, Cancel: what a Cancel that is done makes of obligation o: the quantity that is cancelled, and o with the
 -- wish
-abbrev pub cancel_to : ℕ → Obligation → Change
+abbrev pub cancel_to : ℕ → Obligation → Effect
 cancel_to member o = record { answer = 0; result = moved_by_wish member o; obligation = wishing member o }
 
 -- K1 to K3, Cancel: what Cancel returns if it is done on obligation n, which is o
@@ -149,7 +145,7 @@ abbrev pub cancel_outcome : {A : Type 0} → ℕ → Fetched → (Obligation →
 cancel_outcome member f done refused = fetch_outcome (cancel_refusals_in member) f (λ o. cancel_refusals_of o member) done refused
 
 -- K1 to K4, Cancel: what Cancel makes of what was fetched
-unfoldable pub cancel_change : ℕ → Fetched → Change
+unfoldable pub cancel_change : ℕ → Fetched → Effect
 cancel_change member f = cancel_outcome member f (cancel_to member) refused_change
 
 -- K1 to K4, Cancel: what Cancel returns
@@ -166,7 +162,7 @@ abbrev pub deliver_refused : Book → ℕ → Delivered
 deliver_refused b n = record { answer = n; cash = 0; book = b }
 
 -- V1 and V2, Deliver: what a Deliver that is done makes of obligation o: the cash, and o after the delivery
-abbrev pub deliver_to : ℕ → Obligation → Change
+abbrev pub deliver_to : ℕ → Obligation → Effect
 deliver_to q o = record { answer = 0; result = cash_of o q; obligation = moving part.Delivered q o }
 
 -- V1 and V2, Deliver: what Deliver returns if it is done on obligation n, which is o
@@ -182,7 +178,7 @@ abbrev pub deliver_outcome : {A : Type 0} → Day → ℕ → Fetched → (Oblig
 deliver_outcome today q f done refused = fetch_outcome (deliver_refusals_in q) f (λ o. deliver_refusals_of today o q) done refused
 
 -- V1 and V2, Deliver: what Deliver makes of what was fetched, on this day
-unfoldable pub deliver_change : Day → ℕ → Fetched → Change
+unfoldable pub deliver_change : Day → ℕ → Fetched → Effect
 deliver_change today q f = deliver_outcome today q f (deliver_to q) refused_change
 
 -- V1 and V2, Deliver: what Deliver returns

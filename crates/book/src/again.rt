@@ -13,16 +13,13 @@ impl Book {
         ensures lines_after { lines.new ≡ again_words self lines.old }
         ensures valid { Valid result.book }
     {
-        let last = self.last;
-        let number = refusals::again_answer(self.day.has_closed, lines.len());
-        let mut count = 0;
-        if number == 0 {
-            last.write(lines);
-            count = last.count;
+        if let Err(reason) = refusals::again(self.day.has_closed, lines.len()) {
+            return Closed::refused(self, reason);
         }
+        self.last.write(lines);
         Closed {
-            answer: number,
-            count: count,
+            answer: 0,
+            count: self.last.count,
             book: self,
         }
     }

@@ -1,66 +1,60 @@
 // Buy-in: Offer.
 ghost use Rattle.std.specs.Prelude.{◌≡◌};
-ghost use Rattle.ledger.specs.Setup.{ValidSetup};
-ghost use Rattle.ledger.specs.Ledger.{fetched, ValidLedger};
+ghost use Rattle.basics.specs.Reasons.{answer_of};
+ghost use Rattle.basics.specs.Refusals.{answer};
 ghost use Rattle.book.specs.Book.{Valid};
-ghost use Rattle.book.specs.Buying.{offer_answer_by, offer};
+ghost use Rattle.book.specs.Buying.{offer_refusals, offer};
 
 use crate::{Book, Done};
-use calendar::Day;
-use ledger::{Fetched, Ledger, Setup};
+use basics::Reason;
+use ledger::Fetched;
 use offers::Offer;
 
-// The answer number of an Offer for an obligation, in a book with this ledger, setup and day.
-fn offer_answer(
-    ledger: &Ledger,
-    obligation: u64,
-    setup: Setup,
-    today: Day,
-    supplier: u64,
-    quantity: u64,
-    price: u64,
-) -> u64
-    requires { (ValidLedger ledger.now) × (ValidSetup setup) }
-    ensures { result ≡ offer_answer_by setup today ledger.now.offers.count supplier quantity price (fetched ledger.now obligation) }
-{
-    let number = refusals::offer_answer_in(supplier, quantity, price);
-    if number != 0 {
-        return number;
-    }
-    let Fetched::Found(found) = ledger.fetch(obligation) else {
-        return 13;
-    };
-    let closed_days = setup.closed_days;
-    let age = closed_days.age_at(found.deal.day, today);
-    refusals::offer_answer_of(setup.terms, today, age, ledger.offers.count, found, price)
-}
-
 impl Book {
+    // The refusals of an Offer for an obligation.
+    fn may_offer(
+        &self,
+        obligation: u64,
+        supplier: u64,
+        quantity: u64,
+        price: u64,
+    ) -> Result<(), Reason>
+        requires { Valid self.now }
+        ensures { answer_of result ≡ answer (offer_refusals self.now obligation supplier quantity price) }
+    {
+        refusals::offer_in(supplier, quantity, price)?;
+        let Fetched::Found(found) = self.ledger.fetch(obligation) else {
+            return Err(Reason::NotFound);
+        };
+        let today = self.day.today;
+        let age = self.setup.closed_days.age_at(found.deal.day, today);
+        refusals::offer_of(
+            self.setup.terms,
+            today,
+            age,
+            self.ledger.offers.count,
+            found,
+            price,
+        )
+    }
+
     // Takes a supplier's offer for an obligation in its buy-in days.
     pub fn offer(mut self, obligation: u64, supplier: u64, quantity: u64, price: u64) -> Done
         requires { Valid self }
         ensures value { result ≡ offer self obligation supplier quantity price }
         ensures valid { Valid result.book }
     {
-        let number = offer_answer(
-            &self.ledger,
-            obligation,
-            self.setup,
-            self.day.today,
-            supplier,
-            quantity,
-            price,
-        );
-        if number == 0 {
-            self.ledger.offers = self.ledger.offers.insert(Offer {
-                obligation: obligation as u16,
-                supplier: supplier as u16,
-                quantity: quantity as u32,
-                price: price as u32,
-            });
+        if let Err(reason) = self.may_offer(obligation, supplier, quantity, price) {
+            return Done::refused(self, reason);
         }
+        self.ledger.offers.insert(Offer {
+            obligation: obligation as u16,
+            supplier: supplier as u16,
+            quantity: quantity as u32,
+            price: price as u32,
+        });
         Done {
-            answer: number,
+            answer: 0,
             book: self,
         }
     }

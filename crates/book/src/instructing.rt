@@ -1,97 +1,84 @@
 // Instructions: Enter, Withdraw, Cancel, Deliver.
 ghost use Rattle.std.specs.Prelude.{◌≡◌, ◌≤◌};
+ghost use Rattle.basics.specs.Reasons.{answer_of};
 ghost use Rattle.basics.specs.Refusals.{answer};
 ghost use Rattle.instructions.specs.Legs.{most_legs, fetched_leg};
-ghost use Rattle.ledger.specs.Ledger.{fetched, ValidLedger};
+ghost use Rattle.ledger.specs.Ledger.{fetched, effect_of, ValidLedger};
 ghost use Rattle.book.specs.Book.{Valid};
 ghost use Rattle.book.specs.Instructing.{obligation_of, with_match, Matchable, enter, withdraw};
 ghost use Rattle.book.specs.Instructing.{withdraw_refusals, cancel_change, cancel, deliver_change, deliver};
 
 use crate::{Book, Cancelled, Delivered, Done, Entered};
-use amounts::MOST_QUANTITY;
+use basics::Reason;
 use calendar::Day;
 use instructions::{Entry, Instruction, Leg, LegState, Legs};
 use ledger::{Change, Deal, Fetched, Ledger, Obligation, Part};
-use netting::LAST_MEMBER;
 
 // The obligation of a new leg and the one that it matches.
 fn obligation_of(new: Leg, old: Leg) -> Obligation
     ensures { result ≡ obligation_of new old }
 {
     let seller = new.delivering(old);
-    let buyer = new.receiving(old);
-    let day = new.day;
     Obligation::new(Deal {
         amount: seller.amount,
-        day: day,
+        day: new.day,
         quantity: new.quantity,
         seller: seller.member,
-        buyer: buyer.member,
+        buyer: new.receiving(old).member,
     })
 }
 
-// The answer number of a Withdraw of one of these legs.
-fn withdraw_answer(legs: &Legs, leg: u64, member: u64) -> u64
+// The refusals of a Withdraw of one of these legs.
+fn may_withdraw(legs: &Legs, leg: u64, member: u64) -> Result<(), Reason>
     requires { legs.now.count ≤ most_legs }
-    ensures { result ≡ answer (withdraw_refusals (fetched_leg legs.now leg) member) }
+    ensures { answer_of result ≡ answer (withdraw_refusals (fetched_leg legs.now leg) member) }
 {
-    if LAST_MEMBER < member {
-        return 1;
-    }
-    let Some(found) = legs.fetch(leg) else {
-        return 13;
-    };
+    refusals::member_in(member)?;
+    let found = legs.fetch(leg).ok_or(Reason::NotFound)?;
     if !instructions::is_waiting(found.state) {
-        return 13;
+        return Err(Reason::NotFound);
     }
     if found.member as u64 != member {
-        return 14;
+        return Err(Reason::NotEntitled);
     }
-    0
+    Ok(())
 }
 
 // What a Cancel comes to on the obligation that it names. Its result is the quantity that is cancelled.
-fn cancel_change(ledger: &Ledger, obligation: u64, member: u64) -> Change
+fn cancel_change(ledger: &Ledger, obligation: u64, member: u64) -> Result<Change, Reason>
     requires { ValidLedger ledger.now }
-    ensures { result ≡ cancel_change member (fetched ledger.now obligation) }
+    ensures { effect_of result ≡ cancel_change member (fetched ledger.now obligation) }
 {
-    if LAST_MEMBER < member {
-        return Change::refused(1);
-    }
+    refusals::member_in(member)?;
     let Fetched::Found(found) = ledger.fetch(obligation) else {
-        return Change::refused(13);
+        return Err(Reason::NotFound);
     };
-    let number = refusals::cancel_answer_of(found, member);
-    if number != 0 {
-        return Change::refused(number);
-    }
-    Change {
-        answer: 0,
+    refusals::cancel_of(found, member)?;
+    Ok(Change {
         result: found.moved_by_wish(member),
         obligation: found.wish(member),
-    }
+    })
 }
 
 // What a Deliver comes to on the obligation that it names. Its result is the cash.
-fn deliver_change(ledger: &Ledger, obligation: u64, today: Day, quantity: u64) -> Change
+fn deliver_change(
+    ledger: &Ledger,
+    obligation: u64,
+    today: Day,
+    quantity: u64,
+) -> Result<Change, Reason>
     requires { ValidLedger ledger.now }
-    ensures { result ≡ deliver_change today quantity (fetched ledger.now obligation) }
+    ensures { effect_of result ≡ deliver_change today quantity (fetched ledger.now obligation) }
 {
-    if basics::is_outside(1, MOST_QUANTITY, quantity) {
-        return Change::refused(2);
-    }
+    refusals::deliver_in(quantity)?;
     let Fetched::Found(found) = ledger.fetch(obligation) else {
-        return Change::refused(13);
+        return Err(Reason::NotFound);
     };
-    let number = refusals::deliver_answer_of(today, found, quantity);
-    if number != 0 {
-        return Change::refused(number);
-    }
-    Change {
-        answer: 0,
+    refusals::deliver_of(today, found, quantity)?;
+    Ok(Change {
         result: found.cash_for(quantity),
         obligation: found.move_to(Part::Delivered, quantity),
-    }
+    })
 }
 
 // The ledger after an Enter. If the new leg matches one of these legs, it has one obligation more.
@@ -100,7 +87,6 @@ fn with_match(ledger: &mut Ledger, legs: &Legs, entry: Entry)
     ensures { ledger.new ≡ with_match legs.now entry ledger.old }
 {
     match entry {
-        Entry::Refused => {}
         Entry::Alone(_) => {}
         Entry::Matching(new, k) => {
             ledger.obligations[ledger.count] = obligation_of(new, legs.rows[k]);
@@ -125,25 +111,30 @@ impl Book {
         ensures valid { Valid result.book }
     {
         let asked = Instruction {
-            member: member,
-            other: other,
-            side: side,
-            quantity: quantity,
-            amount: amount,
-            day: day,
+            member,
+            other,
+            side,
+            quantity,
+            amount,
+            day,
         };
-        let closed_days = self.setup.closed_days;
-        let number =
-            refusals::enter_answer(closed_days, self.day.today, self.legs.count, asked);
-        let entry = self.legs.entry(number, asked);
-        let legs_before = self.legs.count as u64;
-        let obligations_before = self.ledger.count as u64;
+        let legs = self.legs.count;
+        let obligations = self.ledger.count as u64;
+        if let Err(reason) = refusals::enter(&self.setup.closed_days, self.day.today, legs, asked) {
+            return Entered {
+                answer: u64::from(reason),
+                leg: 0,
+                obligation: 0,
+                book: self,
+            };
+        }
+        let entry = self.legs.entry(asked);
         with_match(&mut self.ledger, &self.legs, entry);
-        self.legs.enter(entry, obligations_before);
+        self.legs.enter(entry, obligations);
         Entered {
-            answer: number,
-            leg: entry.leg_number(legs_before),
-            obligation: entry.obligation_number(obligations_before),
+            answer: 0,
+            leg: entry.leg_number(legs as u64),
+            obligation: entry.obligation_number(obligations),
             book: self,
         }
     }
@@ -154,12 +145,12 @@ impl Book {
         ensures value { result ≡ withdraw self leg member }
         ensures valid { Valid result.book }
     {
-        let number = withdraw_answer(&self.legs, leg, member);
-        if number == 0 {
-            self.legs.set_state(leg, LegState::Withdrawn);
+        if let Err(reason) = may_withdraw(&self.legs, leg, member) {
+            return Done::refused(self, reason);
         }
+        self.legs.set_state(leg, LegState::Withdrawn);
         Done {
-            answer: number,
+            answer: 0,
             book: self,
         }
     }
@@ -171,10 +162,12 @@ impl Book {
         ensures valid { Valid result.book }
     {
         let change = cancel_change(&self.ledger, obligation, member);
-        self.ledger.change(obligation, change);
+        self.ledger.change(obligation, &change);
+        let answer = basics::answer_of(&change);
+        let moved = ledger::result_of(&change);
         Cancelled {
-            answer: change.answer,
-            moved: change.result,
+            answer,
+            moved,
             book: self,
         }
     }
@@ -186,10 +179,12 @@ impl Book {
         ensures valid { Valid result.book }
     {
         let change = deliver_change(&self.ledger, obligation, self.day.today, quantity);
-        self.ledger.change(obligation, change);
+        self.ledger.change(obligation, &change);
+        let answer = basics::answer_of(&change);
+        let cash = ledger::result_of(&change);
         Delivered {
-            answer: change.answer,
-            cash: change.result,
+            answer,
+            cash,
             book: self,
         }
     }

@@ -2,6 +2,12 @@
 // number (0 is done) and the results; a refused call hands back its number, zeros and the same book.
 #![tactic(auto)]
 
+ghost use Rattle.std.specs.Prelude.{◌≡◌};
+ghost use Rattle.basics.specs.Reasons.{number_of};
+ghost use Rattle.book.specs.Instructing.{done_refused};
+ghost use Rattle.book.specs.Close.{close_refused};
+
+use basics::Reason;
 use calendar::Day;
 use instructions::Legs;
 use ledger::{Ledger, Parts, Setup};
@@ -17,7 +23,8 @@ mod open;
 mod rating;
 mod showing;
 
-// What the days have brought: the day that it is, and which Closes there were.
+// What the days have brought: the day that it is, and which Closes there were. These are two flags and no enum, because
+// the laws `month_refuses` and `again_refuses` name them.
 #[derive(Clone, Copy)]
 pub struct BookDay {
     pub today: Day,
@@ -111,4 +118,29 @@ pub struct Looked {
     pub answer: u64,
     pub obligation: u64,
     pub book: Book,
+}
+
+impl Done {
+    // A refused call leaves the book as it is.
+    fn refused(book: Book, reason: Reason) -> Done
+        ensures { result ≡ done_refused book (number_of reason) }
+    {
+        Done {
+            answer: u64::from(reason),
+            book,
+        }
+    }
+}
+
+impl Closed {
+    // A refused Close or Again has no lines, and the book stays as it is.
+    fn refused(book: Book, reason: Reason) -> Closed
+        ensures { result ≡ close_refused book (number_of reason) }
+    {
+        Closed {
+            answer: u64::from(reason),
+            count: 0,
+            book,
+        }
+    }
 }

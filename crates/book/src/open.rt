@@ -1,9 +1,11 @@
 // Open.
 ghost use Rattle.std.specs.Prelude.{◌≡◌};
-ghost use Rattle.book.specs.Open.{terms_of, fresh_book, refused_book, opened};
+ghost use Rattle.basics.specs.Reasons.{number_of};
+ghost use Rattle.book.specs.Open.{terms_of, fresh_book, refused_book, open_refused, opened};
 ghost use Rattle.book.specs.Book.{Valid};
 
 use crate::{Book, BookDay, Opened};
+use basics::Reason;
 use calendar::{ClearingDays, ClosedDays, Day};
 use instructions::Legs;
 use ledger::{Ledger, Setup, Terms};
@@ -28,6 +30,18 @@ fn terms_of(terms: u64) -> Terms
     }
 }
 
+impl Opened {
+    // A refused Open returns a book that is always the same.
+    fn refused(reason: Reason) -> Opened
+        ensures { result ≡ open_refused (number_of reason) }
+    {
+        Opened {
+            answer: u64::from(reason),
+            book: Book::refused(),
+        }
+    }
+}
+
 impl Book {
     // Makes a fresh book.
     fn fresh(first: Day, closed_days: ClosedDays, terms: u64) -> Book
@@ -39,7 +53,7 @@ impl Book {
             last: LastClose::none(),
             rates: Rates::none(),
             setup: Setup {
-                closed_days: closed_days,
+                closed_days,
                 terms: terms_of(terms),
             },
             day: BookDay {
@@ -65,23 +79,14 @@ impl Book {
         ensures closed_stays { closed.exit.now ≡ closed.entry.now }
     {
         if 1 < terms {
-            return Opened {
-                answer: 1,
-                book: Book::refused(),
-            };
+            return Opened::refused(Reason::BadParty);
         }
         if calendar::refuses_closed(closed) {
-            return Opened {
-                answer: 4,
-                book: Book::refused(),
-            };
+            return Opened::refused(Reason::BadClosedDays);
         }
         let days = ClosedDays::of(closed);
-        if refusals::is_bad_first(days, first) {
-            return Opened {
-                answer: 11,
-                book: Book::refused(),
-            };
+        if refusals::is_bad_first(&days, first) {
+            return Opened::refused(Reason::BadDay);
         }
         Opened {
             answer: 0,

@@ -14,19 +14,13 @@ impl Book {
         ensures value { result ≡ rated self start rate }
         ensures valid { Valid result.book }
     {
-        let held = self.rates;
-        let number = refusals::rate_answer(self.day.today, held, start, rate);
-        if number != 0 {
-            return Done {
-                answer: number,
-                book: self,
-            };
+        if let Err(reason) = refusals::rate(self.day.today, &self.rates, start, rate) {
+            return Done::refused(self, reason);
         }
-        let rates = held.enter(RateRow {
+        self.rates.enter(RateRow {
             start: start.stored(),
             rate: rate as u16,
         });
-        self.rates = rates;
         Done {
             answer: 0,
             book: self,

@@ -5,15 +5,16 @@ ghost use Rattle.book.specs.Book.{Valid};
 ghost use Rattle.book.specs.Showing.{status, account, is_late, LooksAt, Looks};
 
 use crate::{Balance, Book, Looked, Shown};
+use basics::Reason;
 use calendar::Day;
 use ledger::{Fetched, NO_PARTS, Obligation};
-use netting::LAST_MEMBER;
 
 // Whether a member sells an obligation that is late: due before today, with something outstanding.
+#[tactic(auto, unfolding(crate::specs::Showing::is_late))]
 fn is_late(today: Day, member: u64, o: Obligation) -> bool
     ensures { result ≡ is_late today member o }
 {
-    o.deal.seller as u64 == member && (o.deal.day.0 < today.0 && 0 < o.parts.outstanding)
+    o.deal.seller as u64 == member && (o.deal.day < today && 0 < o.parts.outstanding)
 }
 
 impl Book {
@@ -25,7 +26,7 @@ impl Book {
     {
         let Fetched::Found(found) = self.ledger.fetch(obligation) else {
             return Shown {
-                answer: 13,
+                answer: u64::from(Reason::NotFound),
                 quantity: 0,
                 parts: NO_PARTS,
                 book: self,
@@ -45,9 +46,9 @@ impl Book {
         ensures value { result ≡ account self member }
         ensures valid { Valid result.book }
     {
-        if LAST_MEMBER < member {
+        if let Err(reason) = refusals::member_in(member) {
             return Balance {
-                answer: 1,
+                answer: u64::from(reason),
                 cents: 0,
                 book: self,
             };
@@ -82,9 +83,9 @@ impl Book {
         ensures looks { Looks self member result }
         ensures valid { Valid result.book }
     {
-        if LAST_MEMBER < member {
+        if let Err(reason) = refusals::member_in(member) {
             return Looked {
-                answer: 1,
+                answer: u64::from(reason),
                 obligation: 0,
                 book: self,
             };
@@ -92,7 +93,7 @@ impl Book {
         let obligation = self.late_of(member);
         Looked {
             answer: 0,
-            obligation: obligation,
+            obligation,
             book: self,
         }
     }

@@ -1,4 +1,5 @@
 -- Ages: one more at each clearing day, and the same count as the n-th clearing day.
+use Rattle.std.specs.Prelude.{Option, Some, None}
 use Prim.Native.Nat.{ℕ, zero, suc, ◌+◌, ◌-◌, ◌≤◌, ◌<◌}
 use native.Mathlib.Nat.{sub_self, add-zero}
 use native.Mathlib.Omega.{arith}
@@ -9,8 +10,6 @@ use mathlib.Core.List.{List}
 use Rattle.basics.proofs.Cases.{never, below_or_not}
 use Rattle.calendar.specs.declared.Day.{Day}
 use Rattle.calendar.specs.declared.ClearingDays.{ClearingDays}
-use Rattle.calendar.specs.declared.NextDay.{NextDay}
-use Rattle.calendar.specs.declared.NextDay.TheVariants.{At, Never}
 use Rattle.calendar.specs.Closed.{day, last_day}
 use Rattle.calendar.specs.Days.{clearing_days, clearing, next_after, next_of, nth_from, nth_after, clearing_within, age_at}
 use Rattle.calendar.proofs.Walks.{within_more}
@@ -67,12 +66,12 @@ module _ (cs : List Day) where
   age_early j today h = let e : today.0 - j.0 ≡ 0 = omega arith in rw e
 
   -- the age at the next clearing day is one more
-  pub age_next : (j today next : Day) → j.0 ≤ today.0 → next_after cs today ≡ At next → (age_at cs j next).0 ≡ (age_at cs j today).0 + 1
+  pub age_next : (j today next : Day) → j.0 ≤ today.0 → next_after cs today ≡ Some next → (age_at cs j next).0 ≡ (age_at cs j today).0 + 1
   unfolding age_at
   age_next j today next h q = first_counts j.0 today.0 next.0 h (next_at cs today next q).0
 
   -- before a settlement day that is a clearing day, the next clearing day does not pass it, and the age there is 0
-  pub age_to_come : (j today next : Day) → clearing cs j ≡ true → today.0 < j.0 → next_after cs today ≡ At next → (age_at cs j next).0 ≡ 0
+  pub age_to_come : (j today next : Day) → clearing cs j ≡ true → today.0 < j.0 → next_after cs today ≡ Some next → (age_at cs j next).0 ≡ 0
   age_to_come j today next c h q =
       let f = (next_at cs today next q).0 in
       age_early j next
@@ -91,39 +90,39 @@ module _ (cs : List Day) where
   Fewer j n = (x : ℕ) → j ≤ x → x ≤ last_day → counted j x < n
 
   -- each way that the n-th clearing day can turn out
-  Outcome : ℕ → ℕ → NextDay → Type 0
-  Outcome j n (At e) = Nth j n e.0
-  Outcome j n Never = Fewer j n
+  Outcome : ℕ → ℕ → Option Day → Type 0
+  Outcome j n (Some e) = Nth j n e.0
+  Outcome j n None = Fewer j n
 
   none_counted : (j : ℕ) → counted j j ≡ 0
   unfolding clearing_within
   none_counted j = rw sub_self
 
-  next_outcome : (j n : ℕ) (d : Day) (r : NextDay) → next_after cs d ≡ r → Nth j n d.0 → Outcome j (suc n) r
+  next_outcome : (j n : ℕ) (d : Day) (r : Option Day) → next_after cs d ≡ r → Nth j n d.0 → Outcome j (suc n) r
   unfolding Outcome
-  next_outcome j n d (At e) q h =
+  next_outcome j n d (Some e) q h =
       let f = (next_at cs d e q).0 in
       record { from = omega (arith, h.from, f.later); count = omega (arith, first_counts j d.0 e.0 h.from f, h.count); clears = inr f.clears }
-  next_outcome j n d Never q h = λ x l m.
+  next_outcome j n d None q h = λ x l m.
       ⊎_elim (λ (z : x < d.0). omega (arith, rises_to j x d.0 l (omega arith), h.count))
       (λ (z : d.0 ≤ x). omega (arith, quiet_to j d.0 x h.from z (λ y k o. next_never cs d q y k (omega arith)), h.count))
       (below_or_not x d.0)
 
-  nth_step : (j n : ℕ) (r : NextDay) → Outcome j n r → Outcome j (suc n) (next_of cs r)
+  nth_step : (j n : ℕ) (r : Option Day) → Outcome j n r → Outcome j (suc n) (next_of cs r)
   unfolding Outcome next_of
-  nth_step j n (At d) h = next_outcome j n d (next_after cs d) refl h
-  nth_step j n Never h = λ x l m. omega (arith, h x l m)
+  nth_step j n (Some d) h = next_outcome j n d (next_after cs d) refl h
+  nth_step j n None h = λ x l m. omega (arith, h x l m)
 
   nth_outcome : (j n : ℕ) → Outcome j n (nth_from cs (day j) n)
   unfolding Outcome nth_from
   nth_outcome j zero = record { from = omega arith; count = none_counted j; clears = inl refl }
   nth_outcome j (suc n) = nth_step j n (nth_from cs (day j) n) (nth_outcome j n)
 
-  nth_at : (j n : ℕ) (e : Day) → nth_from cs (day j) n ≡ At e → Nth j n e.0
+  nth_at : (j n : ℕ) (e : Day) → nth_from cs (day j) n ≡ Some e → Nth j n e.0
   unfolding Outcome
   nth_at j n e q = rw q at (nth_outcome j n)
 
-  nth_never : (j n : ℕ) → nth_from cs (day j) n ≡ Never → Fewer j n
+  nth_never : (j n : ℕ) → nth_from cs (day j) n ≡ None → Fewer j n
   unfolding Outcome
   nth_never j n q = rw q at (nth_outcome j n)
 
@@ -137,28 +136,28 @@ module _ (cs : List Day) where
       (λ (z : e ≤ d). omega arith)
       (below_or_not d e)
 
-  counted_is : (j n t : ℕ) (r : NextDay) → t ≤ last_day → Nth j n t → Outcome j n r → r ≡ At (day t)
+  counted_is : (j n t : ℕ) (r : Option Day) → t ≤ last_day → Nth j n t → Outcome j n r → r ≡ Some (day t)
   unfolding Outcome
-  counted_is j n t (At e) m h o =
+  counted_is j n t (Some e) m h o =
       let s : e.0 ≡ t = ⊎_elim (λ (z : e.0 < t). same_day j n e.0 t o h (omega arith)) (λ (z : t ≤ e.0). sym (same_day j n t e.0 h o z)) (below_or_not e.0 t) in
-      ap (λ (x : ℕ). At (day x)) s
-  counted_is j n t Never m h o = absurd (omega (arith, o t h.from m, h.count))
+      ap (λ (x : ℕ). Some (day x)) s
+  counted_is j n t None m h o = absurd (omega (arith, o t h.from m, h.count))
 
   -- today has age n exactly where it is the n-th clearing day after j; today is a clearing day from j on
   pub age_nth : (j today : Day) (n : ℕ) → j.0 ≤ today.0 → today.0 ≤ last_day → clearing cs today ≡ true →
-      (age_at cs j today ≡ clearing_days n) ↔ (nth_after cs j (clearing_days n) ≡ At today)
+      (age_at cs j today ≡ clearing_days n) ↔ (nth_after cs j (clearing_days n) ≡ Some today)
   unfolding age_at nth_after
   age_nth j today n h m q = (
     λ e. counted_is j.0 n today.0 (nth_from cs j n) m (record { from = h; count = ap (λ (x : ClearingDays). x.0) e; clears = inr q }) (nth_outcome j.0 n),
     λ e. ap clearing_days (nth_at j.0 n today e).count,
   )
 
-  there_is : (j n : ℕ) (r : NextDay) → j ≤ last_day → n ≤ counted j last_day → Outcome j n r → (e : Day) × (r ≡ At e)
+  there_is : (j n : ℕ) (r : Option Day) → j ≤ last_day → n ≤ counted j last_day → Outcome j n r → (e : Day) × (r ≡ Some e)
   unfolding Outcome
-  there_is j n (At e) h k o = (e, refl)
-  there_is j n Never h k o = absurd (omega (arith, o last_day h (omega arith)))
+  there_is j n (Some e) h k o = (e, refl)
+  there_is j n None h k o = absurd (omega (arith, o last_day h (omega arith)))
 
   -- where n clearing days are left up to the last day, the n-th is there
-  pub nth_exists : (j : Day) (n : ℕ) → j.0 ≤ last_day → n ≤ counted j.0 last_day → (e : Day) × (nth_after cs j (clearing_days n) ≡ At e)
+  pub nth_exists : (j : Day) (n : ℕ) → j.0 ≤ last_day → n ≤ counted j.0 last_day → (e : Day) × (nth_after cs j (clearing_days n) ≡ Some e)
   unfolding nth_after
   nth_exists j n h k = there_is j.0 n (nth_from cs j n) h k (nth_outcome j.0 n)

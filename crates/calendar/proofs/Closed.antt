@@ -1,18 +1,22 @@
 -- The list of closed days, day by day.
-use Prim.Native.Nat.{ℕ, ◌+◌, ◌≤◌, ◌<◌, min}
+use Prim.Native.Nat.{ℕ, ◌+◌, ◌≤◌, ◌<◌}
 use native.Mathlib.Omega.{arith}
 use native.Mathlib.Numerals.{add-one}
 use mathlib.Core.Path.{◌≡◌, refl, sym, ap, ◌∙◌}
-use mathlib.Core.Bool.{true, ◌&&◌}
+use mathlib.Core.Bool.{Bool, true, false, cond, ◌&&◌, ◌||◌}
 use mathlib.Core.List.{List, [], ◌∷◌, ◌++◌, map, map-append}
 use lib.Dec.{leb}
-use lib.ListN.{length, get_or, set, take, drop, length-take, length-map, drop_of_length-le}
-use lib.Seq.{drop-cons, get_or-take, take-suc, take_all, length-take-le}
+use Rattle.std.specs.Prelude.{nat_eq, count_by}
+use Rattle.std.specs.List.{list_any}
+use Rattle.std.proofs.lemmas.List.Recursion.{is_count_by}
+use Rattle.basics.specs.Choice.{pick}
+use lib.ListN.{length, get_or, set, take, drop, length-map, drop_of_length-le}
+use lib.Seq.{drop-cons, take-suc, take_all, length-take-le}
 use Rattle.basics.specs.Lists.{padded}
 use Rattle.basics.proofs.Places.{padded_more, padded_front}
 use Rattle.calendar.specs.declared.Day.{Day}
-use Rattle.calendar.specs.declared.ClosedDays.{ClosedDays}
-use Rattle.calendar.specs.Closed.{day, last_day, most_closed, rises_from, closed_days, listed_days, Rises}
+use Rattle.calendar.specs.Closed.{day, last_day, most_closed, rises_from, closed_days, listed_days, Rises, among}
+use Rattle.calendar.specs.Days.{takes_away, closed_between}
 
 -- ---- rising
 -- the list from place i on
@@ -38,29 +42,10 @@ stored_more ds i days most h e =
     ∙ ap (padded most_closed (day 0)) m
     )
 
-pub stored_all : (ds : List ℕ) (i : ℕ) (days : List Day) → i ≤ length ds → length ds ≤ i → days ≡ padded most_closed (day 0) (map day (take i ds)) →
-    record { days = days; count = i } ≡ closed_days ds
+pub stored_all : (ds : List ℕ) (i : ℕ) (days : List Day) → length ds ≤ i → days ≡ padded most_closed (day 0) (map day (take i ds)) →
+    record { days = days; count = length ds } ≡ closed_days ds
 unfolding closed_days
-stored_all ds i days h k e =
-    let l : i ≡ length ds = omega arith in
-    rw (e, take_all i ds k) (ap (λ (n : ℕ). record { days = padded most_closed (day 0) (map day ds); count = n }) l)
-
--- the closed days as a loop holds them
-abbrev pub held : List Day → ℕ → ClosedDays
-held days count = record { days = days; count = count }
-
--- ---- the closed days from place i on
-module _ (closed : ClosedDays) (size : length closed.days ≡ most_closed) where
-  pub listed_more : (i : ℕ) → i < most_closed → i < closed.count → drop i (listed_days closed) ≡ get_or closed.days i (day 0) ∷ drop (i + 1) (listed_days closed)
-  unfolding listed_days
-  listed_more i h k =
-      let l = length-take closed.count closed.days in
-      rw (add-one i, drop-cons (take closed.count closed.days) i (day 0) (omega arith), get_or-take closed.count closed.days i (day 0) k)
-
-  -- after the last closed day, or after the last place, there are none
-  pub listed_end : (i : ℕ) → min closed.count most_closed ≤ i → drop i (listed_days closed) ≡ []
-  unfolding listed_days
-  listed_end i h = drop_of_length-le (take closed.count closed.days) {i = i} (omega (arith, length-take closed.count closed.days))
+stored_all ds i days k e = rw (e, take_all i ds k) refl
 
 -- ---- the closed days of a list
 numbers_back : (ds : List ℕ) → map (λ (d : Day). d.0) (map day ds) ≡ ds
@@ -74,3 +59,23 @@ given_rises ds h =
     let e : take (length ds) (padded most_closed (day 0) (map day ds)) ≡ map day ds =
     ap (λ (n : ℕ). take n (padded most_closed (day 0) (map day ds))) (sym (length-map ds day)) ∙ padded_front most_closed (day 0) (map day ds) in
     rw (e, numbers_back ds) h
+
+-- ---- the list's own methods
+-- a day is among the closed days where one of them is the same
+pub among_any : (cs : List Day) (d : Day) → among cs d ≡ list_any (λ (c : Day). nat_eq c.0 d.0) cs
+unfolding among
+among_any [] d = refl
+among_any (c ∷ cs) d = by (nat_eq c.0 d.0) (among_any cs d)
+  where
+    by : (t : Bool) → among cs d ≡ list_any (λ (c : Day). nat_eq c.0 d.0) cs → pick t true (among cs d) ≡ (t || list_any (λ (c : Day). nat_eq c.0 d.0) cs)
+    by true e = refl
+    by false e = e
+
+-- the closed days that an age leaves out are those that pass a test
+pub between_count : (cs : List Day) (after to : Day) → closed_between cs after to ≡ count_by (λ (c : Day). takes_away c after to) cs
+unfolding closed_between
+between_count cs after to = is_count_by (λ (ds : List Day). closed_between ds after to) (λ (c : Day). takes_away c after to) refl (λ (c : Day) (ds : List Day). by (takes_away c after to) (closed_between ds after to)) cs
+  where
+    by : (t : Bool) (n : ℕ) → pick t 1 0 + n ≡ cond t (1 + n) n
+    by true n = refl
+    by false n = omega arith

@@ -119,8 +119,8 @@ counted_weekdays (c ∷ cs) n d k e =
 
 -- the age, in weekdays
 pub age_weekdays : (closed : ClosedDays) (due today : Day) → Rises closed → due.0 ≤ today.0 →
-    (age_at (listed_days closed) due today).0 + closed_between (listed_days closed) due today + weekdays_to due.0 ≡ weekdays_to today.0
+    closed_between (listed_days closed) due today + (age_at (listed_days closed) due today).0 + weekdays_to due.0 ≡ weekdays_to today.0
 unfolding age_at Rises
 age_weekdays closed due today r h =
     let e : due.0 + (today.0 - due.0) ≡ today.0 = omega arith in
-    rw e at (counted_weekdays (listed_days closed) 0 due.0 (today.0 - due.0) r)
+    omega (arith, rw e at (counted_weekdays (listed_days closed) 0 due.0 (today.0 - due.0) r))

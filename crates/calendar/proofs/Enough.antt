@@ -1,4 +1,5 @@
 -- There are clearing days enough: 64 closed days and all weekends leave every last day on the calendar.
+use Rattle.std.specs.Prelude.{Some}
 use Prim.Native.Nat.{ℕ, zero, suc, ◌+◌, ◌-◌, ◌*◌, ◌%◌, ◌≤◌, ◌<◌}
 use native.Mathlib.Omega.{arith}
 use mathlib.Core.Path.{◌≡◌, refl}
@@ -9,7 +10,6 @@ use lib.ListN.{length}
 use borrow.Author.Tests.{eqb-true, eqb-false, leb-true, leb-false}
 use Rattle.basics.specs.Choice.{pick}
 use Rattle.calendar.specs.declared.Day.{Day}
-use Rattle.calendar.specs.declared.NextDay.TheVariants.{At}
 use Rattle.calendar.specs.Closed.{day, last_day, most_closed, among}
 use Rattle.calendar.specs.Days.{clearing_days, clearing, clearing_within, nth_after}
 use Rattle.calendar.proofs.Ages.{nth_exists}
@@ -71,7 +71,7 @@ weekdays d (suc k) = by (leb 2 ((d + k) % 7)) refl (leb 2 ((d + suc k) % 7)) ref
 
 -- B3, Buy-in, and R11, Refusals: for a J up to 60,000 the 36th clearing day after it exists, and so does each before it
 pub last_day_exists : (cs : List Day) (j : Day) (n : ℕ) → length cs ≤ most_closed → j.0 ≤ 60000 → n ≤ 36 →
-    (e : Day) × (nth_after cs j (clearing_days n) ≡ At e)
+    (e : Day) × (nth_after cs j (clearing_days n) ≡ Some e)
 last_day_exists cs j n h k m =
     nth_exists cs j n (omega arith) (omega (arith, all_cost cs j.0 (last_day - j.0), weekdays j.0 (last_day - j.0), rest (leb 2 ((j.0 + (last_day - j.0)) % 7))))
   where

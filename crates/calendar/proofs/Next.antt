@@ -1,4 +1,5 @@
 -- What the next clearing day is: later, a clearing day, and the first such.
+use Rattle.std.specs.Prelude.{Some, None}
 use Prim.Native.Nat.{ℕ, zero, suc, ◌+◌, ◌-◌, ◌≤◌, ◌<◌}
 use native.Mathlib.Omega.{arith}
 use mathlib.Core.Path.{◌≡◌, refl, ap}
@@ -8,7 +9,6 @@ use mathlib.Core.List.{List}
 use Rattle.basics.specs.Choice.{pick}
 use Rattle.basics.proofs.Cases.{below_or_not}
 use Rattle.calendar.specs.declared.Day.{Day}
-use Rattle.calendar.specs.declared.NextDay.TheVariants.{At, Never}
 use Rattle.calendar.specs.Closed.{day, last_day}
 use Rattle.calendar.specs.Days.{clearing, next_within, next_after}
 
@@ -28,13 +28,13 @@ module _ (cs : List Day) where
   none_more d e q h x l m =
       ⊎_elim (λ (z : x < d + 2). let n : x ≡ d + 1 = omega arith in rw n q) (λ (z : d + 2 ≤ x). h x (omega arith) m) (below_or_not x (d + 2))
 
-  within_at : (k d e : ℕ) → next_within cs k d ≡ At (day e) → FirstAfter cs d e × (e ≤ d + k)
+  within_at : (k d e : ℕ) → next_within cs k d ≡ Some (day e) → FirstAfter cs d e × (e ≤ d + k)
   unfolding next_within
   within_at zero d e q = let z : ◌≡◌ {A = ℕ} 0 1 = cc in absurd (omega arith)
   within_at (suc k) d e q = by (clearing cs (day (d + 1))) refl q (within_at k (d + 1) e)
     where
-      by : (t : Bool) → clearing cs (day (d + 1)) ≡ t → pick t (At (day (d + 1))) (next_within cs k (d + 1)) ≡ At (day e) →
-          (next_within cs k (d + 1) ≡ At (day e) → FirstAfter cs (d + 1) e × (e ≤ d + 1 + k)) → FirstAfter cs d e × (e ≤ d + suc k)
+      by : (t : Bool) → clearing cs (day (d + 1)) ≡ t → pick t (Some (day (d + 1))) (next_within cs k (d + 1)) ≡ Some (day e) →
+          (next_within cs k (d + 1) ≡ Some (day e) → FirstAfter cs (d + 1) e × (e ≤ d + 1 + k)) → FirstAfter cs d e × (e ≤ d + suc k)
       by true t r f =
           let s : day (d + 1) ≡ day e = cc in
           let n : d + 1 ≡ e = ap (λ (x : Day). x.0) s in
@@ -43,18 +43,18 @@ module _ (cs : List Day) where
           let g = f r in
           (record { later = omega (arith, g.0.later); clears = g.0.clears; first = none_more d (e - 1) t g.0.first }, omega (arith, g.1))
 
-  within_never : (k d : ℕ) → next_within cs k d ≡ Never → NoneUpTo cs d (d + k)
+  within_never : (k d : ℕ) → next_within cs k d ≡ None → NoneUpTo cs d (d + k)
   unfolding next_within
   within_never zero d q = λ x l m. absurd (omega arith)
   within_never (suc k) d q = by (clearing cs (day (d + 1))) refl q (within_never k (d + 1))
     where
-      by : (t : Bool) → clearing cs (day (d + 1)) ≡ t → pick t (At (day (d + 1))) (next_within cs k (d + 1)) ≡ Never →
-          (next_within cs k (d + 1) ≡ Never → NoneUpTo cs (d + 1) (d + 1 + k)) → NoneUpTo cs d (d + suc k)
+      by : (t : Bool) → clearing cs (day (d + 1)) ≡ t → pick t (Some (day (d + 1))) (next_within cs k (d + 1)) ≡ None →
+          (next_within cs k (d + 1) ≡ None → NoneUpTo cs (d + 1) (d + 1 + k)) → NoneUpTo cs d (d + suc k)
       by true t r f = let z : ◌≡◌ {A = ℕ} 0 1 = cc in absurd (omega arith)
       by false t r f = none_more d (d + suc k) t (λ x l m. f r x l (omega arith))
 
   -- the next clearing day is later, is a clearing day and the first such, and is no later than the last day
-  pub next_at : (d e : Day) → next_after cs d ≡ At e → FirstAfter cs d.0 e.0 × (e.0 ≤ last_day)
+  pub next_at : (d e : Day) → next_after cs d ≡ Some e → FirstAfter cs d.0 e.0 × (e.0 ≤ last_day)
   unfolding next_after
   next_at d e q =
       let g = within_at (last_day - d.0) d.0 e.0 q in
@@ -64,6 +64,6 @@ module _ (cs : List Day) where
       past l m = omega arith
 
   -- where there is none, no day up to the last is a clearing day
-  pub next_never : (d : Day) → next_after cs d ≡ Never → NoneUpTo cs d.0 last_day
+  pub next_never : (d : Day) → next_after cs d ≡ None → NoneUpTo cs d.0 last_day
   unfolding next_after
   next_never d q = λ x l m. within_never (last_day - d.0) d.0 q x l (omega arith)

@@ -1,10 +1,8 @@
 -- Clearing days, and how they are counted.
-use Rattle.std.specs.Prelude.{ℕ, zero, suc, ◌+◌, ◌-◌, ◌%◌, Bool, not, ◌&&◌, List, [], ◌∷◌, leb, ltb}
+use Rattle.std.specs.Prelude.{ℕ, zero, suc, ◌+◌, ◌-◌, ◌%◌, Bool, not, ◌&&◌, List, [], ◌∷◌, leb, ltb, Option, Some, None}
 use Rattle.basics.specs.Choice.{pick}
 use Rattle.calendar.specs.declared.Day.{Day}
 use Rattle.calendar.specs.declared.ClearingDays.{ClearingDays}
-use Rattle.calendar.specs.declared.NextDay.{NextDay}
-use Rattle.calendar.specs.declared.NextDay.TheVariants.{At, Never}
 use Rattle.calendar.specs.Closed.{day, last_day, among}
 
 -- D8, Days and units: a count of clearing days, or an age, which is not a calendar day
@@ -17,26 +15,26 @@ unfoldable pub clearing : List Day → Day → Bool
 clearing cs d = leb 2 (d.0 % 7) && not (among cs d)
 
 -- the first clearing day of the k days after d
-unfoldable pub next_within : List Day → ℕ → ℕ → NextDay
-next_within cs zero d = Never
-next_within cs (suc k) d = pick (clearing cs (day (d + 1))) (At (day (d + 1))) (next_within cs k (d + 1))
+unfoldable pub next_within : List Day → ℕ → ℕ → Option Day
+next_within cs zero d = None
+next_within cs (suc k) d = pick (clearing cs (day (d + 1))) (Some (day (d + 1))) (next_within cs k (d + 1))
 
 -- D4, Days and units: the next clearing day after d, if there is one up to 65,535
-unfoldable pub next_after : List Day → Day → NextDay
+unfoldable pub next_after : List Day → Day → Option Day
 next_after cs d = next_within cs (last_day - d.0) d.0
 
 -- D6 and D7, Days and units: the next clearing day after one that was looked for; if there was none, there is none
-unfoldable pub next_of : List Day → NextDay → NextDay
-next_of cs (At d) = next_after cs d
-next_of cs Never = Never
+unfoldable pub next_of : List Day → Option Day → Option Day
+next_of cs (Some d) = next_after cs d
+next_of cs None = None
 
 -- D5 and D6, Days and units: d is its own 0-th clearing day, and every further one is the next after the one before it
-unfoldable pub nth_from : List Day → Day → ℕ → NextDay
-nth_from cs d zero = At d
+unfoldable pub nth_from : List Day → Day → ℕ → Option Day
+nth_from cs d zero = Some d
 nth_from cs d (suc n) = next_of cs (nth_from cs d n)
 
 -- D5 to D8, Days and units: the n-th clearing day after d, where n is a count of clearing days
-unfoldable pub nth_after : List Day → Day → ClearingDays → NextDay
+unfoldable pub nth_after : List Day → Day → ClearingDays → Option Day
 nth_after cs d n = nth_from cs d n.0
 
 -- how many of the k days after d are clearing days

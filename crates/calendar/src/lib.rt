@@ -13,25 +13,19 @@ pub const LAST_DAY: u64 = 65_535;
 pub const MOST_CLOSED: usize = 64;
 
 // A calendar day by its number; day 0 is Saturday 1 January 2000.
-#[derive(Clone, Copy)]
+#[derive(Clone, Copy, PartialEq, Eq, PartialOrd, Ord)]
 pub struct Day(pub u64);
 
 // A calendar day as a book stores it, in two bytes. It is turned into a `Day` before it is compared with one.
-#[derive(Clone, Copy)]
+#[derive(Clone, Copy, PartialEq, Eq, PartialOrd, Ord)]
 pub struct StoredDay(pub u16);
 
 // A count of clearing days, or an age.
-#[derive(Clone, Copy)]
+#[derive(Clone, Copy, PartialEq, Eq, PartialOrd, Ord)]
 pub struct ClearingDays(pub u64);
 
-// A clearing day that was looked for: the day, or none up to the last day of the calendar.
-#[derive(Clone, Copy)]
-pub enum NextDay {
-    At(Day),
-    Never,
-}
-
-// The book's closed days: the first `count` places of `days`. The places after them are free.
+// The book's closed days: the first `count` places of `days`. The places after them are free. It is a plain record, since
+// `closed_days` in specs/ builds it and the theorem compares whole books; a heap could run out, and no refusal says so.
 #[derive(Clone, Copy)]
 pub struct ClosedDays {
     pub days: [Day; MOST_CLOSED],
@@ -44,14 +38,11 @@ fn is_rising(days: &[u64]) -> bool
     ensures { result ≡ rises_from 0 days.now }
 {
     let mut least: u64 = 0;
-    let mut i = 0;
-    while i < days.len() {
-        let day = days[i];
-        if day < least || LAST_DAY < day {
+    for day in days {
+        if *day < least || LAST_DAY < *day {
             return false;
         }
-        least = day + 1;
-        i += 1;
+        least = *day + 1;
     }
     true
 }
@@ -65,17 +56,12 @@ pub fn refuses_closed(days: &[u64]) -> bool
     MOST_CLOSED < days.len() || !is_rising(days)
 }
 
-// How many weekdays there are up to a day, as if no day were closed.
+// How many weekdays there are up to a day, as if no day were closed. The week under way has begun with a weekend.
 #[tactic(auto, using(crate::proofs::Counting::weekdays_by_weeks))]
 fn weekdays_to(day: Day) -> u64
     ensures { result ≡ weekdays_to day.0 }
 {
-    let weeks = 5 * (day.0 / 7);
-    let rest = day.0 % 7;
-    if rest == 0 {
-        return weeks;
-    }
-    weeks + rest - 1
+    5 * (day.0 / 7) + (day.0 % 7).saturating_sub(1)
 }
 
 // Whether a closed day is a weekday that is later than one day and not later than another.
@@ -83,11 +69,11 @@ fn weekdays_to(day: Day) -> u64
 fn takes_away(closed: Day, after: Day, to: Day) -> bool
     ensures { result ≡ takes_away closed after to }
 {
-    after.0 < closed.0 && closed.0 <= to.0 && 2 <= closed.0 % 7
+    after < closed && closed <= to && 2 <= closed.0 % 7
 }
 
 impl Day {
-    // The day as a book stores it.
+    // The day as a book stores it. It is no `From`, because it requires a day that fits two bytes.
     pub fn stored(self) -> StoredDay
         requires { self.0 ≤ last_day }
         ensures { result ≡ stored_day self }
@@ -97,7 +83,7 @@ impl Day {
 }
 
 impl StoredDay {
-    // The calendar day that is stored.
+    // The calendar day that is stored. It is a method, as `Day::stored` is, so that both directions read alike.
     pub fn day(self) -> Day
         ensures { result ≡ day_of self }
     {
@@ -114,98 +100,87 @@ impl ClosedDays {
         ensures list_stays { list.exit.now ≡ list.entry.now }
     {
         let mut days = [Day(0); MOST_CLOSED];
-        let mut i = 0;
-        while i < list.len() {
-            days[i] = Day(list[i]);
-            i += 1;
+        for (i, day) in list.iter().enumerate() {
+            days[i] = Day(*day);
         }
         ClosedDays {
             days: days,
-            count: i,
+            count: list.len(),
         }
     }
 
-    // Whether a day is among the closed days.
-    fn has(self, day: Day) -> bool
-        ensures { result ≡ among (listed_days self) day }
+    // The days that the book lists as closed.
+    #[tactic(auto, unfolding(crate::specs::Closed::listed_days))]
+    fn listed(&self) -> &[Day]
+        ensures { result.now ≡ listed_days self.now }
     {
-        let days = self.days;
-        let count = self.count;
-        let mut i = 0;
-        while i < MOST_CLOSED && i < count {
-            let closed = days[i];
-            if closed.0 == day.0 {
-                return true;
-            }
-            i += 1;
-        }
-        false
+        &self.days[..self.count.min(MOST_CLOSED)]
+    }
+
+    // Whether a day is among the closed days.
+    #[tactic(auto, using(crate::proofs::Closed::among_any))]
+    fn has(&self, day: Day) -> bool
+        ensures { result ≡ among (listed_days self.now) day }
+    {
+        self.listed().contains(&day)
     }
 
     // Whether a day is a clearing day.
     #[tactic(auto, unfolding(crate::specs::Days::clearing))]
-    pub fn is_clearing(self, day: Day) -> bool
-        ensures { result ≡ clearing (listed_days self) day }
+    pub fn is_clearing(&self, day: Day) -> bool
+        ensures { result ≡ clearing (listed_days self.now) day }
     {
         2 <= day.0 % 7 && !self.has(day)
     }
 
     // The next clearing day after a day.
     #[tactic(auto, using(crate::proofs::Walks::next_more, crate::proofs::Walks::next_none))]
-    pub fn next_after(self, day: Day) -> NextDay
-        ensures { result ≡ next_after (listed_days self) day }
+    pub fn next_after(&self, day: Day) -> Option<Day>
+        ensures { result ≡ next_after (listed_days self.now) day }
     {
-        let mut d = day.0;
-        while d < LAST_DAY {
-            d += 1;
-            if self.is_clearing(Day(d)) {
-                return NextDay::At(Day(d));
+        for d in day.0..LAST_DAY {
+            let next = Day(d + 1);
+            if self.is_clearing(next) {
+                return Some(next);
             }
         }
-        NextDay::Never
+        None
     }
 
     // The n-th clearing day after a day: for n above 0, the next one after the (n - 1)-th.
     #[tactic(auto, unfolding(crate::specs::Days::nth_after, crate::specs::Days::next_of), using(crate::proofs::Walks::nth_none, crate::proofs::Walks::nth_more))]
-    pub fn nth_after(self, day: Day, n: ClearingDays) -> NextDay
-        ensures { result ≡ nth_after (listed_days self) day n }
+    pub fn nth_after(&self, day: Day, n: ClearingDays) -> Option<Day>
+        ensures { result ≡ nth_after (listed_days self.now) day n }
     {
         let count = n.0;
         if count == 0 {
-            return NextDay::At(day);
+            return Some(day);
         }
-        let NextDay::At(previous) = self.nth_after(day, ClearingDays(count - 1)) else {
-            return NextDay::Never;
-        };
+        let previous = self.nth_after(day, ClearingDays(count - 1))?;
         self.next_after(previous)
     }
 
     // How many closed days are weekdays that are later than one day and not later than another.
-    #[tactic(auto, unfolding(crate::specs::Days::closed_between), using(crate::proofs::Closed::listed_more, crate::proofs::Closed::listed_end))]
-    fn closed_between(self, after: Day, to: Day) -> u64
-        ensures { result ≡ closed_between (listed_days self) after to }
+    #[tactic(auto, using(crate::proofs::Closed::between_count))]
+    fn closed_between(&self, after: Day, to: Day) -> u64
+        ensures { result ≡ closed_between (listed_days self.now) after to }
     {
-        let days = self.days;
-        let count = self.count;
-        let mut n: u64 = 0;
-        let mut i = 0;
-        while i < MOST_CLOSED && i < count {
-            if takes_away(days[i], after, to) {
-                n += 1;
-            }
-            i += 1;
-        }
-        n
+        self.listed()
+            .iter()
+            .filter(|closed| takes_away(**closed, after, to))
+            .count() as u64
     }
 
     // The age at today of what was due on a day: the weekdays since then without the closed days among them.
-    pub fn age_at(self, due: Day, today: Day) -> ClearingDays
-        requires { Rises self }
-        ensures { result ≡ age_at (listed_days self) due today }
+    #[tactic(auto, using(crate::proofs::Ages::age_early, crate::proofs::Counting::age_weekdays))]
+    pub fn age_at(&self, due: Day, today: Day) -> ClearingDays
+        requires { Rises self.now }
+        ensures { result ≡ age_at (listed_days self.now) due today }
     {
-        if today.0 <= due.0 {
+        if today <= due {
             return ClearingDays(0);
         }
-        ClearingDays(weekdays_to(today) - weekdays_to(due) - self.closed_between(due, today))
+        let closed = self.closed_between(due, today);
+        ClearingDays(weekdays_to(today) - weekdays_to(due) - closed)
     }
 }

@@ -71,14 +71,14 @@ module _ (n : ℕ) (o : Obligation) (gs : List Given) (h : Buys o gs) where
       (Takes r (get_or gs k nothing_given).quantity) × ((get_or gs k nothing_given).offer.price ≤ most_offer_price)
   next_takes k r l e = rw e (bought_takes n gs k o nothing_given l h.sound h.enough, every_at h.prices k nothing_given l)
 
-  pub next_room : (k : ℕ) (count : ℕ) (r : Closing) (ws ws' : List ℕ) → k < length gs → Room count ws (bought_all n gs o) →
-      Wrote count ws r ws' (bought_all n (take k gs) o) → words_in_line * (r.count + 1) ≤ length ws'
-  next_room k count r ws ws' l room w =
+  pub next_room : (k : ℕ) (s r : Closing) (ws ws' : List ℕ) → k < length gs → Room s.count ws (bought_all n gs o) →
+      Wrote s ws r ws' (bought_all n (take k gs) o) → words_in_line * (r.count + 1) ≤ length ws'
+  next_room k s r ws ws' l room w =
       omega (
         arith,
         room,
         w.counted,
-        wrote_length count r ws ws' (bought_all n (take k gs) o) w,
+        wrote_length s r ws ws' (bought_all n (take k gs) o) w,
         bought_length n gs o,
         bought_length n (take k gs) o,
         length-take-le k gs (omega arith),

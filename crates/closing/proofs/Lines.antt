@@ -96,44 +96,51 @@ flat_stores ws count ls ms =
     ∙ ap (λ (l : List ℕ). sets ws (words_in_line * count) l) (sym (flat_append ls ms))
 
 -- a part without lines writes nothing
-pub wrote_nothing : (s : Closing) (ws : List ℕ) → Wrote s.count ws s ws (nothing s.obligation)
+pub wrote_nothing : (s : Closing) (ws : List ℕ) → Wrote s ws s ws (nothing s.obligation)
 unfolding flat
-wrote_nothing s ws = record { made = refl; counted = sym (add-zero s.count); words = refl }
+wrote_nothing s ws = record { numbered = refl; made = refl; counted = sym (add-zero s.count); words = refl }
 
 -- a part with one line writes it
-pub wrote_one : (o : Obligation) (count : ℕ) (l : Line) (ws ws' : List ℕ) → ws' ≡ sets ws (words_in_line * count) (words_of l) →
-    Wrote count ws (record { obligation = o; count = count + 1 }) ws' (one o l)
+pub wrote_one : (s : Closing) (l : Line) (ws ws' : List ℕ) → ws' ≡ sets ws (words_in_line * s.count) (words_of l) →
+    Wrote s ws (record { number = s.number; obligation = s.obligation; count = s.count + 1 }) ws' (one s.obligation l)
 unfolding flat
-wrote_one o count l ws ws' e = record { made = refl; counted = refl; words = e }
+wrote_one s l ws ws' e = record { numbered = refl; made = refl; counted = refl; words = e }
+
+-- what is written depends on the number and the count alone
+pub wrote_from : (s : Closing) (o : Obligation) (r : Closing) (ws ws' : List ℕ) (m : Made) →
+    Wrote (record { number = s.number; obligation = o; count = s.count }) ws r ws' m → Wrote s ws r ws' m
+wrote_from s o r ws ws' m w = record { numbered = w.numbered; made = w.made; counted = w.counted; words = w.words }
 
 -- two parts, one after the other, write what both together make
-pub wrote_then : (count : ℕ) (r t : Closing) (ws ws' ws'' : List ℕ) (m : Made) (f : Obligation → Made) →
-    Wrote count ws r ws' m → Wrote r.count ws' t ws'' (f r.obligation) → Wrote count ws t ws'' (then m f)
+pub wrote_then : (s r t : Closing) (ws ws' ws'' : List ℕ) (m : Made) (f : ℕ → Obligation → Made) →
+    Wrote s ws r ws' m → Wrote r ws' t ws'' (f r.number r.obligation) → Wrote s ws t ws'' (then m (f s.number))
 unfolding then
-wrote_then count r t ws ws' ws'' m f p q =
-    let q' : Wrote r.count ws' t ws'' (f m.obligation) = subst (λ (o : Obligation). Wrote r.count ws' t ws'' (f o)) p.made q in
-    let ms : List Line = (f m.obligation).lines in
+wrote_then s r t ws ws' ws'' m f p q =
+    let same : f r.number r.obligation ≡ f s.number m.obligation = λ i. f (p.numbered i) (p.made i) in
+    let q' : Wrote r ws' t ws'' (f s.number m.obligation) = subst (Wrote r ws' t ws'') same q in
+    let ms : List Line = (f s.number m.obligation).lines in
     record {
+      numbered = q'.numbered ∙ p.numbered;
       made = q'.made;
       counted = omega (arith, q'.counted, p.counted, length-append m.lines ms);
       words =
           q'.words
           ∙ ap (λ (l : List ℕ). sets l (words_in_line * r.count) (flat ms)) p.words
-          ∙ ap (λ (k : ℕ). sets (sets ws (words_in_line * count) (flat m.lines)) (words_in_line * k) (flat ms)) p.counted
-          ∙ flat_stores ws count m.lines ms;
+          ∙ ap (λ (k : ℕ). sets (sets ws (words_in_line * s.count) (flat m.lines)) (words_in_line * k) (flat ms)) p.counted
+          ∙ flat_stores ws s.count m.lines ms;
     }
 
 -- the list keeps its length
-pub wrote_length : (count : ℕ) (r : Closing) (ws ws' : List ℕ) (m : Made) → Wrote count ws r ws' m → length ws' ≡ length ws
-wrote_length count r ws ws' m p = ap (λ (l : List ℕ). length l) p.words ∙ length-sets ws (words_in_line * count) (flat m.lines)
+pub wrote_length : (s r : Closing) (ws ws' : List ℕ) (m : Made) → Wrote s ws r ws' m → length ws' ≡ length ws
+wrote_length s r ws ws' m p = ap (λ (l : List ℕ). length l) p.words ∙ length-sets ws (words_in_line * s.count) (flat m.lines)
 
 -- if there is room for two parts, there is room for the first, and after it for the second
 pub room_first : (count : ℕ) (ws : List ℕ) (m : Made) (f : Obligation → Made) → Room count ws (then m f) → Room count ws m
 unfolding then
 room_first count ws m f h = omega (arith, h, length-append m.lines (f m.obligation).lines)
 
-pub room_second : (count : ℕ) (r : Closing) (ws ws' : List ℕ) (m : Made) (f : Obligation → Made) →
-    Room count ws (then m f) → Wrote count ws r ws' m → Room r.count ws' (f r.obligation)
+pub room_second : (s r : Closing) (ws ws' : List ℕ) (m : Made) (f : ℕ → Obligation → Made) →
+    Room s.count ws (then m (f s.number)) → Wrote s ws r ws' m → Room r.count ws' (f r.number r.obligation)
 unfolding then
-room_second count r ws ws' m f h w =
-    rw w.made (omega (arith, h, w.counted, wrote_length count r ws ws' m w, length-append m.lines (f m.obligation).lines))
+room_second s r ws ws' m f h w =
+    rw (w.made, w.numbered) (omega (arith, h, w.counted, wrote_length s r ws ws' m w, length-append m.lines (f s.number m.obligation).lines))

@@ -160,8 +160,8 @@ stages_beside d age offers n o =
     rw (stages_obligation d age offers n o) (record { deal = q.deal ∙ p.deal; stage = q.stage ∙ p.stage; wishes = q.wishes ∙ p.wishes })
 
 -- ---- how many lines
-pub compensated_one : (price n : ℕ) (o : Obligation) → (o.parts.outstanding ≡ 0 → ⊥) → length (compensated_at true price n o).lines ≡ 1
-unfolding compensated_at compensated
+pub compensated_one : (price n : ℕ) (o : Obligation) → (o.parts.outstanding ≡ 0 → ⊥) → length (compensated price n o).lines ≡ 1
+unfolding compensated
 compensated_one price n o f = rw (ne_eqb o.parts.outstanding 0 f)
 
 -- no Close decides on both a notice and a compensation for one obligation

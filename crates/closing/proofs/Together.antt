@@ -141,13 +141,13 @@ module _ (d : DayEnd) (l : Ledger) (n : ℕ) (next : Ledger) (count : ℕ) (ws w
 
   -- it is due, its penalty moved, and it was closed
   pub done_due : is_due d.today p ≡ true → (accounts : List ℤ) → accounts ≡ transferred (sides_of p).debtor (sides_of p).creditor (penalty_on d p) next.accounts →
-      (r : Closing) (ws'' : List ℕ) → Wrote count ws' r ws'' (stages d (age_by d.setup d.today p) (listed_offers next.offers) n p) →
+      (r : Closing) (ws'' : List ℕ) → Wrote (record { number = n; obligation = p; count = count }) ws' r ws'' (stages d (age_by d.setup d.today p) (listed_offers next.offers) n p) →
       Done d l (n + 1) (record { obligations = set next.obligations n r.obligation; count = next.count; offers = next.offers; accounts = accounts }) r.count ws ws''
   unfolding rows_up_to accounts_up_to lines_up_to
   done_due f accounts b r ws'' w =
       let e : is_due d.today o ≡ true = rw p_same at f in
       let a : accounts ≡ transferred (sides_of o).debtor (sides_of o).creditor (penalty_on d o) next.accounts = rw p_same at b in
-      let v : Wrote count ws' r ws'' (closed_at d offers l.obligations n) = rw (due_stages d offers n o e) (rw (offers_same, p_same) at w) in
+      let v : Wrote (record { number = n; obligation = o; count = count }) ws' r ws'' (closed_at d offers l.obligations n) = rw (due_stages d offers n o e) (rw (offers_same, p_same) at w) in
       let ms : List Line = (closed_at d offers l.obligations n).lines in
       rw (add-one n) (record {
         ledger = λ i. record {

@@ -6,6 +6,8 @@ use Rattle.amounts.specs.Amounts.{most_quantity, most_offer_price}
 use Rattle.ledger.specs.declared.Obligation.{Obligation}
 use Rattle.ledger.specs.Lines.{words_in_line}
 use Rattle.ledger.specs.Ledger.{most_obligations, most_supplier}
+use Rattle.closing.specs.declared.Kind.{Kind}
+use Rattle.closing.specs.declared.Kind.TheVariants.{Penalty, Notice, Bought, Compensation}
 use Rattle.closing.specs.declared.Line.{Line}
 use Rattle.closing.specs.declared.Closing.{Closing}
 
@@ -24,6 +26,13 @@ bought_kind = 3
 -- C12, Close: what was compensated is a line of kind 4
 abbrev pub compensation_kind : ℕ
 compensation_kind = 4
+
+-- C12, Close: the number of each kind
+abbrev pub kind_number : Kind → ℕ
+kind_number Penalty = penalty_kind
+kind_number Notice = notice_kind
+kind_number Bought = bought_kind
+kind_number Compensation = compensation_kind
 
 -- C12, Close: the highest kind of a line
 abbrev pub most_kind : ℕ
@@ -87,9 +96,10 @@ then m f = record { obligation = (f m.obligation).obligation; lines = m.lines ++
 abbrev pub Room : ℕ → List ℕ → Made → Type 0
 Room count ws m = words_in_line * (count + length m.lines) ≤ length ws
 
--- A part was carried out after count lines were written. r has the obligation and the number of lines after it, and ws'
--- is the list after it.
-pub record Wrote (count : ℕ) (ws : List ℕ) (r : Closing) (ws' : List ℕ) (m : Made) : Type 0 where
+-- A part of the Close of s was carried out. r has the obligation and the number of lines after it, and ws' is the list
+-- after it.
+pub record Wrote (s : Closing) (ws : List ℕ) (r : Closing) (ws' : List ℕ) (m : Made) : Type 0 where
+  pub numbered : r.number ≡ s.number
   pub made : r.obligation ≡ m.obligation
-  pub counted : r.count ≡ count + length m.lines
-  pub words : ws' ≡ sets ws (words_in_line * count) (flat m.lines)
+  pub counted : r.count ≡ s.count + length m.lines
+  pub words : ws' ≡ sets ws (words_in_line * s.count) (flat m.lines)

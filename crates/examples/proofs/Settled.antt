@@ -1,4 +1,5 @@
 -- The settled examples of docs/RULES.md hold of the definitions.
+use Rattle.std.specs.Prelude.{Some}
 use Prim.Native.Nat.{ℕ, ◌-◌, ◌≤◌, ◌<◌}
 use native.Mathlib.Omega.{arith}
 use mathlib.Core.Path.{◌≡◌, refl, ap, ap₂, ◌∙◌}
@@ -11,7 +12,6 @@ use Rattle.basics.specs.Lists.Every.{nobody, also}
 use Rattle.basics.specs.Refusals.{answer}
 use Rattle.basics.proofs.Refusals.{by_number}
 use Rattle.calendar.specs.declared.Day.{Day}
-use Rattle.calendar.specs.declared.NextDay.TheVariants.{At}
 use Rattle.calendar.specs.Closed.{day, last_day, rises_from, closed_refused, closed_days, listed_days, among}
 use Rattle.calendar.specs.Days.{clearing_days, clearing, clearing_within, next_within, next_after, nth_after, age_at}
 use Rattle.calendar.proofs.Ages.{age_nth}
@@ -58,19 +58,19 @@ use Rattle.examples.specs.Table.{table, bought_from, nth_day, day_number, one_of
 
 -- the n-th clearing day is found by counting the clearing days up to it
 nth : (cs : List Day) (j e n : ℕ) → j ≤ e → e ≤ last_day → clearing cs (day e) ≡ true → clearing_within cs j (e - j) ≡ n →
-    nth_after cs (day j) (clearing_days n) ≡ At (day e)
+    nth_after cs (day j) (clearing_days n) ≡ Some (day e)
 unfolding age_at
 nth cs j e n h m q c = (age_nth cs (day j) (day e) n h m q).0 (λ i. clearing_days (c i))
 
-pub thirtieth : nth_after [] (day 2) (clearing_days 30) ≡ At (day 44)
+pub thirtieth : nth_after [] (day 2) (clearing_days 30) ≡ Some (day 44)
 unfolding clearing clearing_within among
 thirtieth = nth [] 2 44 30 (omega arith) (omega arith) refl refl
 
-pub thirty_fifth : nth_after [] (day 2) (clearing_days 35) ≡ At (day 51)
+pub thirty_fifth : nth_after [] (day 2) (clearing_days 35) ≡ Some (day 51)
 unfolding clearing clearing_within among
 thirty_fifth = nth [] 2 51 35 (omega arith) (omega arith) refl refl
 
-pub thirtieth_after_closed : nth_after (day 44 ∷ []) (day 2) (clearing_days 30) ≡ At (day 45)
+pub thirtieth_after_closed : nth_after (day 44 ∷ []) (day 2) (clearing_days 30) ≡ Some (day 45)
 unfolding clearing clearing_within among
 thirtieth_after_closed = nth (day 44 ∷ []) 2 45 30 (omega arith) (omega arith) refl refl
 

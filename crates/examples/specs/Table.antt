@@ -1,10 +1,8 @@
 -- The settled examples of docs/RULES.md, each as rows: its number there, what the definitions give, and what is
 -- settled.
-use Rattle.std.specs.Prelude.{ℕ, ◌+◌, Bool, List, [], ◌∷◌, ◌++◌, take, replicate}
+use Rattle.std.specs.Prelude.{ℕ, ◌+◌, Bool, List, [], ◌∷◌, ◌++◌, take, replicate, Option, Some, None}
 use Rattle.basics.specs.Choice.{pick}
 use Rattle.calendar.specs.declared.Day.{Day}
-use Rattle.calendar.specs.declared.NextDay.{NextDay}
-use Rattle.calendar.specs.declared.NextDay.TheVariants.{At, Never}
 use Rattle.calendar.specs.Closed.{day}
 use Rattle.calendar.specs.Days.{clearing_days, nth_after}
 use Rattle.holidays.specs.Target.{target, target_words}
@@ -34,14 +32,14 @@ abbrev pub cap_answer : ℕ → ℕ → ℕ
 cap_answer price grace_price = pick (above_cap price grace_price) 18 0
 
 -- the number of a clearing day that was looked for, as a list that is empty if there is none
-abbrev pub day_number : NextDay → List ℕ
-day_number (At d) = d.0 ∷ []
-day_number Never = []
+abbrev pub day_number : Option Day → List ℕ
+day_number (Some d) = d.0 ∷ []
+day_number None = []
 
 -- the number of a clearing day that was looked for, or 0 if there is none
-abbrev pub day_or_none : NextDay → ℕ
-day_or_none (At d) = d.0
-day_or_none Never = 0
+abbrev pub day_or_none : Option Day → ℕ
+day_or_none (Some d) = d.0
+day_or_none None = 0
 
 -- X9, Settled examples: the n-th clearing day after j, with these closed days
 abbrev pub nth_day : List Day → ℕ → ℕ → List ℕ

@@ -2,7 +2,7 @@
 // differs is proved, and the output shows it.
 #![tactic(auto)]
 
-use calendar::{ClearingDays, ClosedDays, Day, NextDay};
+use calendar::{ClearingDays, ClosedDays, Day};
 use offers::{Offer, Offers};
 use std::io::Stdout;
 
@@ -12,7 +12,7 @@ ghost use Rattle.std.specs.Prelude.{◌≡◌, ◌≤◌, eqb};
 ghost use Rattle.basics.specs.Choice.{pick};
 ghost use Rattle.calendar.specs.Closed.{day, listed_days};
 ghost use Rattle.calendar.specs.Days.{clearing_days, nth_after};
-ghost use Rattle.examples.specs.Table.{as_number, day_or_none, offer_of};
+ghost use Rattle.examples.specs.Table.{day_or_none, offer_of};
 
 // Prints one answer of an example and answers 1 where it is not the settled one, else 0. The answer is the same if it
 // could not be printed.
@@ -26,13 +26,6 @@ fn compared(output: Stdout, item: u64, answer: u64, settled: u64) -> u64
     }
     let _ = println!(output; "example {item}: {answer}, settled is {settled}");
     1
-}
-
-// 1 for yes, 0 for no.
-fn as_number(test: bool) -> u64
-    ensures { result ≡ as_number test }
-{
-    if test { 1 } else { 0 }
 }
 
 // Examples 1 to 3: penalties and compensation.
@@ -50,30 +43,30 @@ fn rounded_amounts(output: Stdout) -> u64
 fn limits(output: Stdout) -> u64
     ensures { result ≡ 0 }
 {
-    compared(output, 4, as_number(amounts::above_cap(107_998, 99_999)), 0)
-        + compared(output, 4, as_number(amounts::above_cap(107_999, 99_999)), 1)
+    compared(output, 4, u64::from(amounts::above_cap(107_998, 99_999)), 0)
+        + compared(output, 4, u64::from(amounts::above_cap(107_999, 99_999)), 1)
         + compared(
             output,
             5,
-            as_number(amounts::amounts_match(10_000_000, 10_000_200)),
+            u64::from(amounts::amounts_match(10_000_000, 10_000_200)),
             1,
         )
         + compared(
             output,
             5,
-            as_number(amounts::amounts_match(10_000_000, 10_000_201)),
+            u64::from(amounts::amounts_match(10_000_000, 10_000_201)),
             0,
         )
         + compared(
             output,
             6,
-            as_number(amounts::amounts_match(10_000_001, 10_002_501)),
+            u64::from(amounts::amounts_match(10_000_001, 10_002_501)),
             1,
         )
         + compared(
             output,
             6,
-            as_number(amounts::amounts_match(10_000_001, 10_002_502)),
+            u64::from(amounts::amounts_match(10_000_001, 10_002_502)),
             0,
         )
 }
@@ -108,13 +101,12 @@ fn months(output: Stdout) -> u64
 }
 
 // The number of the n-th clearing day after day 2, or 0 where there is none.
-fn nth_after_2(closed: ClosedDays, n: u64) -> u64
-    ensures { result ≡ day_or_none (nth_after (listed_days closed) (day 2) (clearing_days n)) }
+fn nth_after_2(closed: &ClosedDays, n: u64) -> u64
+    ensures { result ≡ day_or_none (nth_after (listed_days closed.now) (day 2) (clearing_days n)) }
 {
-    match closed.nth_after(Day(2), ClearingDays(n)) {
-        NextDay::At(day) => day.0,
-        NextDay::Never => 0,
-    }
+    closed
+        .nth_after(Day(2), ClearingDays(n))
+        .map_or(0, |day| day.0)
 }
 
 // Example 9: clearing days with no closed day, and with day 44 closed.
@@ -124,9 +116,9 @@ fn clearing_days(output: Stdout) -> u64
     let list = [44u64; 1];
     let all_open = ClosedDays::of(&list[..0]);
     let one_closed = ClosedDays::of(&list);
-    compared(output, 9, nth_after_2(all_open, 30), 44)
-        + compared(output, 9, nth_after_2(all_open, 35), 51)
-        + compared(output, 9, nth_after_2(one_closed, 30), 45)
+    compared(output, 9, nth_after_2(&all_open, 30), 44)
+        + compared(output, 9, nth_after_2(&all_open, 35), 51)
+        + compared(output, 9, nth_after_2(&one_closed, 30), 45)
 }
 
 // An offer for obligation 0.
@@ -145,10 +137,10 @@ fn offered(supplier: u16, quantity: u32, price: u32) -> Offer
 fn auction(output: Stdout) -> u64
     ensures { result ≡ 0 }
 {
-    let offers = Offers::none()
-        .insert(offered(1, 7, 101_000))
-        .insert(offered(2, 5, 100_500))
-        .insert(offered(3, 7, 101_000));
+    let mut offers = Offers::none();
+    offers.insert(offered(1, 7, 101_000));
+    offers.insert(offered(2, 5, 100_500));
+    offers.insert(offered(3, 7, 101_000));
     let bought = offers.buy_in(0, 10);
     let given = bought.given;
     let first = given[0];

@@ -62,10 +62,8 @@ fn days_pass(book: Book, count: u64) -> Book
     ensures valid { Valid result }
 {
     let mut today = book;
-    let mut left = count;
-    while 0 < left {
+    for _ in 0..count {
         today = day_ends(today, 100_000);
-        left -= 1;
     }
     today
 }

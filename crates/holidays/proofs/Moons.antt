@@ -10,7 +10,8 @@ use Rattle.basics.specs.Choice.{pick}
 use Rattle.basics.proofs.Cases.{below_or_not, and_no}
 use Rattle.holidays.specs.Years.{first_year, date_of}
 use Rattle.holidays.specs.Easter.{golden, plain_epact, epact, march_moon, full_moon, easter}
-use Rattle.holidays.proofs.Years.{dates}
+use Rattle.holidays.specs.Target.{Taken}
+use Rattle.holidays.proofs.Years.{dates, march_early}
 use Rattle.holidays.proofs.Sundays.{FirstSunday, is_first_sunday}
 
 -- ---- the epact
@@ -108,3 +109,7 @@ module _ (y : ℕ) (h : first_year ≤ y) where
     omega (arith, after_march.0, (dates y h).march 21),
     omega (arith, after_march.1, (dates y h).april 24),
   )
+
+-- the full moon of a year that is taken is not after day 65,583
+pub moon_most : (y : ℕ) → Taken y → full_moon y ≤ 65583
+moon_most y t = omega (arith, (moon_span y t.from).1, march_early y t)

@@ -9,6 +9,9 @@ use lib.ListN.{length, take, drop}
 use lib.Seq.{take-append_seam}
 use borrow.Author.Tests.{leb-true, leb-false, ltb-false, le-leb, lt-leb, lt-ltb, le-ltb}
 use Rattle.basics.specs.Lists.{at_front}
+use Rattle.basics.specs.declared.Reason.{Reason}
+use Rattle.basics.specs.declared.Reason.TheVariants.{BadParty, BadQuantity, BadAmount, BadClosedDays, BadLength, BadDay, LegsFull, NotFound, NotEntitled, TooLittleOutstanding, WrongStage, OffersFull, AboveCap, OverCollected, NoNextDay, NoCloseSince, NeverClosed, BadYears, BadStart, RatesFull, NoRate}
+use Rattle.basics.specs.Reasons.{number_of}
 use Rattle.basics.specs.Refusals.{outside}
 use Rattle.basics.proofs.Cases.{same_test, or_false}
 use Rattle.basics.proofs.Refusals.{passed, refused_with, done_by, Refuses, outcome_refuses}
@@ -17,6 +20,33 @@ use Rattle.holidays.specs.Years.{first_year}
 use Rattle.holidays.specs.Target.{closed_from, years_in, target_days, too_few, last_year, most_years, bad_years, target_refusals}
 use Rattle.holidays.specs.Target.{target_answer, target_done, target_refused, target, target_words}
 use Rattle.holidays.proofs.Rising.{closed_length, closed_taken}
+
+-- the number of a reason is not that of a call that is done
+above_zero : (r : Reason) → 0 < number_of r
+above_zero BadParty = omega arith
+above_zero BadQuantity = omega arith
+above_zero BadAmount = omega arith
+above_zero BadClosedDays = omega arith
+above_zero BadLength = omega arith
+above_zero BadDay = omega arith
+above_zero LegsFull = omega arith
+above_zero NotFound = omega arith
+above_zero NotEntitled = omega arith
+above_zero TooLittleOutstanding = omega arith
+above_zero WrongStage = omega arith
+above_zero OffersFull = omega arith
+above_zero AboveCap = omega arith
+above_zero OverCollected = omega arith
+above_zero NoNextDay = omega arith
+above_zero NoCloseSince = omega arith
+above_zero NeverClosed = omega arith
+above_zero BadYears = omega arith
+above_zero BadStart = omega arith
+above_zero RatesFull = omega arith
+above_zero NoRate = omega arith
+
+pub some_reason : (reason : Reason) (n : ℕ) → n ≡ number_of reason → n ≡ 0 → ⊥
+some_reason reason n e z = absurd (omega (arith, above_zero reason))
 
 module _ (first last : ℕ) where
   -- the words are too few if their sixth part is not above the difference of the years

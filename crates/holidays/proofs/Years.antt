@@ -161,3 +161,7 @@ begins_early y h l = omega (arith, year_begins y h)
 -- so 1 March of a year that is taken is not after that day
 pub march_early : (y : ℕ) → Taken y → date_of y 3 1 ≤ last_day
 march_early y t = omega (arith, begins_early (y + 1) (omega (arith, t.from)) (omega (arith, t.to)), (dates y t.from).next)
+
+-- the year after one that is taken begins 306 days after 1 March
+pub next_begins : (y : ℕ) → Taken y → new_year (y + 1) ≡ date_of y 3 1 + 306
+next_begins y t = (dates y t.from).next

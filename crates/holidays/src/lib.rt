@@ -5,12 +5,14 @@
 ghost use Rattle.std.specs.Prelude.{◌≡◌, ◌+◌, ◌*◌, ◌≤◌, length};
 ghost use Rattle.std.proofs.lemmas.List.Edits.{sets};
 ghost use Rattle.basics.specs.Lists.{at_front};
+ghost use Rattle.basics.specs.Reasons.{answer_of};
 ghost use Rattle.basics.specs.Refusals.{answer};
 ghost use Rattle.holidays.specs.Years.{first_year, new_year, date_of};
 ghost use Rattle.holidays.specs.Easter.{golden, plain_epact, epact, full_moon, easter};
 ghost use Rattle.holidays.specs.Target.{Taken, closed_in_year, closed_from, last_year, too_few, bad_years};
 ghost use Rattle.holidays.specs.Target.{target_refusals, target, target_words};
 
+use basics::Reason;
 use calendar::Day;
 
 // The year in which day 0 is 1 January; `first_year` in specs/.
@@ -35,6 +37,7 @@ pub struct DaysWritten {
 
 // The first day of a year. There is one leap year in four, and of the hundredth years only one in four. Before 2000
 // there were 484 leap years by this rule.
+#[tactic(auto, using(crate::proofs::Years::coded_enough, crate::proofs::Years::coded_year))]
 fn new_year(year: u64) -> Day
     requires { (first_year ≤ year) × (year ≤ last_year + 1) }
     ensures { result.0 ≡ new_year year }
@@ -44,6 +47,7 @@ fn new_year(year: u64) -> Day
 }
 
 // 1 March of a year. From this day on every year has 306 days.
+#[tactic(auto, using(crate::proofs::Years::next_begins))]
 fn first_of_march(year: u64) -> Day
     requires { Taken year }
     ensures { result.0 ≡ date_of year 3 1 }
@@ -59,6 +63,7 @@ fn golden(year: u64) -> u64
 }
 
 // The epact of a year before its exceptions. Up to the last year that is taken, the sum is above the sun's correction.
+#[tactic(auto, unfolding(crate::specs::Easter::plain_epact, crate::specs::Easter::sun_correction, crate::specs::Easter::moon_correction), using(crate::proofs::Moons::taken_off))]
 fn plain_epact(year: u64) -> u64
     requires { Taken year }
     ensures { result ≡ plain_epact year }
@@ -70,6 +75,7 @@ fn plain_epact(year: u64) -> u64
 }
 
 // The epact of a year.
+#[tactic(auto, using(crate::proofs::Moons::first_exception, crate::proofs::Moons::second_exception, crate::proofs::Moons::not_25, crate::proofs::Moons::not_golden))]
 fn epact(year: u64) -> u64
     requires { Taken year }
     ensures { result ≡ epact year }
@@ -86,6 +92,7 @@ fn epact(year: u64) -> u64
 
 // The paschal full moon of a year. The full moon of March comes 43 days after 1 March, less the epact, and 21 March is
 // 20 days after it.
+#[tactic(auto, using(crate::proofs::Years::march_early, crate::proofs::Moons::epact_is))]
 fn full_moon(year: u64) -> Day
     requires { Taken year }
     ensures { result.0 ≡ full_moon year }
@@ -99,6 +106,7 @@ fn full_moon(year: u64) -> Day
 }
 
 // Easter of a year. The remainder says how many days after a Sunday the full moon is.
+#[tactic(auto, unfolding(crate::specs::Easter::easter), using(crate::proofs::Moons::moon_most, crate::proofs::Sundays::sunday_after))]
 fn easter(year: u64) -> Day
     requires { Taken year }
     ensures { result.0 ≡ easter year }
@@ -128,15 +136,14 @@ fn write_years(first: u64, years: usize, days: &mut [u64])
     requires { (first_year ≤ first) × (first + years ≤ last_year + 1) × (6 * years ≤ length days.old) }
     ensures { days.new ≡ at_front (closed_from first years) days.old }
 {
-    let mut i = 0;
-    while i < years {
+    for i in 0..years {
         put_year(first + i as u64, days, CLOSED_IN_YEAR * i);
-        i += 1;
     }
 }
 
 // Whether a list of this many words is too short for the years. Neither the number of years nor six times it need fit
 // 64 bits, so the words are divided.
+#[tactic(auto, using(crate::proofs::Refused::words_divided, crate::proofs::Refused::reversed_none))]
 fn are_too_few(first: u64, last: u64, words: usize) -> bool
     ensures { result ≡ too_few first last words }
 {
@@ -152,17 +159,18 @@ fn are_bad_years(first: u64, last: u64) -> bool
             || (last < first || MOST_YEARS <= last - first))
 }
 
-// The answer number of Target, with this many words lent.
-fn target_answer(first: u64, last: u64, words: usize) -> u64
-    ensures { result ≡ answer (target_refusals first last words) }
+// Why Target is refused, with this many words lent.
+#[tactic(auto, unfolding(crate::specs::Target::target_refusals), using(basics::proofs::Refusals::pass, basics::proofs::Refusals::stop, basics::proofs::Refusals::all_passed))]
+fn target_answer(first: u64, last: u64, words: usize) -> Result<(), Reason>
+    ensures { answer_of result ≡ answer (target_refusals first last words) }
 {
     if are_too_few(first, last, words) {
-        return 5;
+        return Err(Reason::BadLength);
     }
     if are_bad_years(first, last) {
-        return 23;
+        return Err(Reason::BadYears);
     }
-    0
+    Ok(())
 }
 
 // Writes the closed days of all years from the first to the last, rising, and returns how many there are.
@@ -170,10 +178,9 @@ pub fn target_days(first: u64, last: u64, days: &mut [u64]) -> DaysWritten
     ensures value { result ≡ target first last (length days.old) }
     ensures days_after { days.new ≡ target_words first last days.old }
 {
-    let number = target_answer(first, last, days.len());
-    if number != 0 {
+    if let Err(reason) = target_answer(first, last, days.len()) {
         return DaysWritten {
-            answer: number,
+            answer: u64::from(reason),
             count: 0,
         };
     }

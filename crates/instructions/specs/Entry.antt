@@ -1,12 +1,11 @@
 -- Instructions: what an Enter comes to, and what it makes of the legs.
-use Rattle.std.specs.Prelude.{ℕ, ◌+◌, ◌<◌, eqb, Some, None}
-use Rattle.basics.specs.Choice.{pick}
+use Rattle.std.specs.Prelude.{ℕ, ◌+◌, ◌<◌, Some, None}
 use Rattle.instructions.specs.declared.LegState.TheVariants.{Matched}
 use Rattle.instructions.specs.declared.Instruction.{Instruction}
 use Rattle.instructions.specs.declared.Leg.{Leg}
 use Rattle.instructions.specs.declared.Legs.{Legs}
 use Rattle.instructions.specs.declared.Entry.{Entry}
-use Rattle.instructions.specs.declared.Entry.TheVariants.{Refused, Alone, Matching}
+use Rattle.instructions.specs.declared.Entry.TheVariants.{Alone, Matching}
 use Rattle.instructions.specs.Legs.{most_legs, leg_of, in_state, with_state, with_leg}
 use Rattle.instructions.specs.Match.{Fit, lowest_fit}
 
@@ -15,33 +14,27 @@ abbrev pub entry_by : Leg → Fit → Entry
 entry_by new None = Alone new
 entry_by new (Some k) = Matching new k
 
--- A5, Refusals; E5 and E10, Enter: what an Enter with this answer number comes to
-abbrev pub entry_of : Legs → ℕ → Instruction → Entry
-entry_of s number i = pick (eqb number 0) (entry_by (leg_of i) (lowest_fit s (leg_of i))) Refused
+-- E5 and E10, Enter: what an accepted Enter comes to
+abbrev pub entry_of : Legs → Instruction → Entry
+entry_of s i = entry_by (leg_of i) (lowest_fit s (leg_of i))
 
 -- E2 and E10, Enter: the legs after an Enter, whose obligation has the number n if there is a match. A leg without a
--- match waits, and both legs of a match are matched to the obligation. A refused Enter leaves the legs as they are
--- (A5).
+-- match waits, and both legs of a match are matched to the obligation.
 abbrev pub with_entry : Entry → ℕ → Legs → Legs
-with_entry Refused n s = s
 with_entry (Alone new) n s = with_leg new s
 with_entry (Matching new k) n s = with_leg (in_state (Matched n) new) (with_state k (Matched n) s)
 
 -- what is required so that the legs can take what an Enter comes to
 abbrev pub Enterable : Entry → Legs → Type 0
-Enterable Refused s = Unit {0}
 Enterable (Alone new) s = s.count < most_legs
 Enterable (Matching new k) s = (s.count < most_legs) × (k < most_legs)
 
--- E11, Enter; A5, Refusals: the number of the new leg, which is how many legs there were before; 0 for a refused Enter
+-- E11, Enter: the number of the new leg, which is how many legs there were before
 abbrev pub leg_number : Entry → ℕ → ℕ
-leg_number Refused legs = 0
 leg_number (Alone new) legs = legs
 leg_number (Matching new k) legs = legs
 
--- E11, Enter; A5, Refusals: the number of the new obligation plus 1, if there were this many obligations before, or 0
--- without a match and for a refused Enter
+-- E11, Enter: the number of the new obligation plus 1, if there were this many obligations before, or 0 without a match
 abbrev pub obligation_number : Entry → ℕ → ℕ
-obligation_number Refused obligations = 0
 obligation_number (Alone new) obligations = 0
 obligation_number (Matching new k) obligations = obligations + 1

@@ -32,7 +32,8 @@ pub struct Instruction {
 }
 
 // One member's instruction, as the book keeps it. Side 0 delivers, side 1 receives. Its fields are narrow, because the
-// book holds 128 of these and is copied at every call.
+// book holds 128 of these and is copied at every call. The side is a number, because `enter_refusals` tests the side of
+// the leg of an instruction, which may be any number.
 #[derive(Clone, Copy)]
 pub struct Leg {
     pub amount: u64,
@@ -44,17 +45,17 @@ pub struct Leg {
     pub state: LegState,
 }
 
-// The legs that were entered, numbered from 0: the first count rows.
+// The legs that were entered, numbered from 0: the first count rows. They are rows with a count, because definitions
+// build them, the theorem compares them, and a heap could run out, which no refusal says.
 #[derive(Clone, Copy)]
 pub struct Legs {
     pub rows: [Leg; MOST_LEGS],
     pub count: usize,
 }
 
-// What an Enter comes to: it is refused, its leg finds no match and waits, or its leg matches the leg with a number.
+// What an accepted Enter comes to: its leg finds no match and waits, or it matches the leg with a number.
 #[derive(Clone, Copy)]
 pub enum Entry {
-    Refused,
     Alone(Leg),
     Matching(Leg, usize),
 }
@@ -121,7 +122,7 @@ impl Leg {
     fn same_business(self, new: Leg) -> bool
         ensures { result ≡ same_business self new }
     {
-        self.quantity == new.quantity && self.day.0 == new.day.0
+        self.quantity == new.quantity && self.day == new.day
     }
 
     // Whether a leg is one that a new leg matches.
@@ -198,14 +199,11 @@ impl Legs {
         self.listed().iter().position(|leg| leg.fits_new(new))
     }
 
-    // What an Enter with this answer number comes to.
-    pub fn entry(&self, number: u64, asked: Instruction) -> Entry
-        requires { (self.now.count ≤ most_legs) × (number ≡ 0 → Fitting asked) }
-        ensures { result ≡ entry_of self.now number asked }
+    // What an accepted Enter comes to.
+    pub fn entry(&self, asked: Instruction) -> Entry
+        requires { (self.now.count ≤ most_legs) × (Fitting asked) }
+        ensures { result ≡ entry_of self.now asked }
     {
-        if number != 0 {
-            return Entry::Refused;
-        }
         let new = asked.leg();
         match self.lowest_fit(new) {
             Some(k) => Entry::Matching(new, k),
@@ -219,7 +217,6 @@ impl Legs {
         ensures { self.new ≡ with_entry entry obligation self.old }
     {
         match entry {
-            Entry::Refused => {}
             Entry::Alone(new) => self.push(new),
             Entry::Matching(new, k) => {
                 let state = LegState::Matched(obligation as u8);
@@ -231,14 +228,13 @@ impl Legs {
 }
 
 impl Entry {
-    // The number of the new leg, where there were so many legs before; 0 if the Enter is refused.
+    // The number of the new leg, where there were so many legs before. It is told for each case, as S9 of docs/CODE.md has
+    // it.
     pub fn leg_number(self, legs: u64) -> u64
         ensures { result ≡ leg_number self legs }
     {
         match self {
-            Entry::Refused => 0,
-            Entry::Alone(_) => legs,
-            Entry::Matching(_, _) => legs,
+            Entry::Alone(_) | Entry::Matching(_, _) => legs,
         }
     }
 
@@ -248,7 +244,6 @@ impl Entry {
         ensures { result ≡ obligation_number self obligations }
     {
         match self {
-            Entry::Refused => 0,
             Entry::Alone(_) => 0,
             Entry::Matching(_, _) => obligations + 1,
         }

@@ -1,10 +1,10 @@
 -- At every accepted Close the offers are taken in their order: `known_bought` at the end.
+use Rattle.std.specs.Prelude.{Option, None, Some}
 use Prim.Native.Nat.{ℕ}
 use native.Mathlib.Omega.{arith}
 use mathlib.Core.Path.{◌≡◌, refl, sym, ap, ap₂, ◌∙◌}
 use mathlib.Core.Bool.{Bool, true, false, ◌&&◌, false≢true}
 use mathlib.Core.List.{List, [], ◌∷◌, ◌++◌, map, append-nil}
-use mathlib.Core.Option.{Option, none, some}
 use lib.Dec.{eqb}
 use borrow.Author.Tests.{eq-eqb, ltb-true}
 use Rattle.basics.specs.Choice.{pick}
@@ -127,8 +127,8 @@ module _ (o : Opening) (b : Book) (es : List Event) (g : Agrees o b es) (k : Rec
   ended_bought after e d t = by (facts e).ends refl t
     where
       by : (x : Option Ended) → (facts e).ends ≡ x → is_end x ≡ true → BuysInTurn o es (reported x)
-      by none q r = absurd (false≢true r)
-      by (some y) q r = let c = d.closes y q in rw c.lines (close_bought c.end c.ends)
+      by None q r = absurd (false≢true r)
+      by (Some y) q r = let c = d.closes y q in rw c.lines (close_bought c.end c.ends)
 
 -- ---- every run
 pub known_bought : (s : Run) → Known s → EveryBuyIn s.opening s.past

@@ -1,20 +1,18 @@
 -- Every obligation whose age is above grace has had its Close at age = grace, whose price is at least 1: `known_capped` at
 -- the end. An obligation is never due before the day of its Enter, and each accepted Close adds one to the age of an
 -- obligation whose settlement day has come, so no age is passed over.
+use Rattle.std.specs.Prelude.{Option, Some, None}
 use Prim.Native.Nat.{ℕ, ◌+◌, ◌≤◌, ◌<◌}
 use native.Mathlib.Omega.{arith}
 use mathlib.Core.Path.{◌≡◌, refl, sym, ap, ap₂, subst⁻¹, ◌∙◌}
 use mathlib.Core.Bool.{Bool, true, false, ◌&&◌, ◌||◌}
 use mathlib.Core.Logic.{⊎_elim}
 use mathlib.Core.List.{List, [], ◌∷◌}
-use mathlib.Core.Option.{Option, none, some}
 use lib.Dec.{eqb}
 use borrow.Author.Tests.{eqb-false}
 use Rattle.basics.specs.Choice.{pick}
 use Rattle.basics.proofs.Cases.{below_or_not}
 use Rattle.calendar.specs.declared.Day.{Day}
-use Rattle.calendar.specs.declared.NextDay.{NextDay}
-use Rattle.calendar.specs.declared.NextDay.TheVariants.{At}
 use Rattle.calendar.specs.Closed.{listed_days}
 use Rattle.calendar.specs.Days.{clearing, age_at, next_after}
 use Rattle.calendar.proofs.Ages.{age_early, age_next, age_to_come}
@@ -49,7 +47,7 @@ module _ (o : Opening) (b : Book) (es : List Event) (e : Event) (g : Agrees o b 
   grace_some = omega (arith, g.valid.setup.terms.notice_before, ap (λ (s : Setup). s.terms.grace.0) g.setup)
 
   -- the settlement day of an instruction is a clearing day
-  day_clears : (n : ℕ) (i : Instructed) → instructed_in n es ≡ some i → clearing cs i.day ≡ true
+  day_clears : (n : ℕ) (i : Instructed) → instructed_in n es ≡ Some i → clearing cs i.day ≡ true
   day_clears n i q =
       let h = told_held o b es g n i q in
       rw (← ap (λ (s : Setup). s.closed_days) g.setup, ← h.same) (g.valid.timely n h.below).clears
@@ -76,22 +74,22 @@ module _ (o : Opening) (b : Book) (es : List Event) (e : Event) (g : Agrees o b 
   }
 
   -- the day stays
-  stays_capped : is_end (facts e).ends ≡ false → ((n : ℕ) (i : Instructed) → instructs n (facts e).legs ≡ some i → b.day.today.0 ≤ i.day.0) → EveryCapPrice o (e ∷ es)
+  stays_capped : is_end (facts e).ends ≡ false → ((n : ℕ) (i : Instructed) → instructs n (facts e).legs ≡ Some i → b.day.today.0 ≤ i.day.0) → EveryCapPrice o (e ∷ es)
   unfolding instructed_in
   stays_capped t due n i q h = by (instructs n (facts e).legs) refl q
     where
       same_age : age i (today_in o (e ∷ es)) ≡ age i (today_in o es)
       same_age = ap (age i) (today_is n false _ t refl)
 
-      by : (d : Option Instructed) → instructs n (facts e).legs ≡ d → or_else d (instructed_in n es) ≡ some i → HasCapPrice o (e ∷ es) n
-      by none m r = kept n false _ t refl refl (k n i r (omega (arith, h, same_age)))
-      by (some j) m r =
+      by : (d : Option Instructed) → instructs n (facts e).legs ≡ d → or_else d (instructed_in n es) ≡ Some i → HasCapPrice o (e ∷ es) n
+      by None m r = kept n false _ t refl refl (k n i r (omega (arith, h, same_age)))
+      by (Some j) m r =
           let same : j ≡ i = cc in
           let early = due n j m in
           absurd (omega (arith, h, same_age, grace_some, age_early cs i.day (today_in o es) (rw (← g.today, ← same) early)))
 
   -- the day turns
-  turns_capped : is_end (facts e).ends ≡ true → ((n : ℕ) → instructs n (facts e).legs ≡ none) → 1 ≤ price_of (facts e).ends → (next : Day) → next_day b ≡ At next → EveryCapPrice o (e ∷ es)
+  turns_capped : is_end (facts e).ends ≡ true → ((n : ℕ) → instructs n (facts e).legs ≡ None) → 1 ≤ price_of (facts e).ends → (next : Day) → next_day b ≡ Some next → EveryCapPrice o (e ∷ es)
   unfolding instructed_in
   turns_capped t made p next q n i r h =
       ⊎_elim
@@ -100,14 +98,14 @@ module _ (o : Opening) (b : Book) (es : List Event) (e : Event) (g : Agrees o b 
       by (eqb (age i (today_in o es)) (terms_in o).grace.0) refl (age_next cs i.day (today_in o es) next z there))
       (below_or_not (today_in o es).0 i.day.0)
     where
-      instructed : instructed_in n es ≡ some i
+      instructed : instructed_in n es ≡ Some i
       instructed = ap (λ (d : Option Instructed). or_else d (instructed_in n es)) (sym (made n)) ∙ r
 
-      there : next_after cs (today_in o es) ≡ At next
+      there : next_after cs (today_in o es) ≡ Some next
       there = ap₂ (λ (s : Setup) (d : Day). next_after (listed_days s.closed_days) d) (sym g.setup) (sym g.today) ∙ q
 
       next_age : age i (today_in o (e ∷ es)) ≡ age i next
-      next_age = ap (age i) (today_is n true _ t refl ∙ ap (λ (d : NextDay). moved_on d (today_in o es)) there)
+      next_age = ap (age i) (today_is n true _ t refl ∙ ap (λ (d : Option Day). moved_on d (today_in o es)) there)
 
       by : (w : Bool) → eqb (age i (today_in o es)) (terms_in o).grace.0 ≡ w → age i next ≡ age i (today_in o es) + 1 → HasCapPrice o (e ∷ es) n
       by true d one =
@@ -121,8 +119,8 @@ module _ (o : Opening) (b : Book) (es : List Event) (e : Event) (g : Agrees o b 
   capped_step d = by (facts e).ends refl
     where
       by : (x : Option Ended) → (facts e).ends ≡ x → EveryCapPrice o (e ∷ es)
-      by none q = stays_capped (rw q) d.due
-      by (some y) q =
+      by None q = stays_capped (rw q) d.due
+      by (Some y) q =
           let c = d.closes y q in
           turns_capped (rw q) (λ n. rw c.legs) (rw (q, c.price) c.ends.price_some) c.next c.on
 

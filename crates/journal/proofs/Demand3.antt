@@ -2,10 +2,10 @@
 -- of calls, said of the functions themselves. It can be read without the proof, which is in Theorem.antt. `Asked` is
 -- what the contract of a function requires, and `Learnt` is what the contract tells a caller of the result and of the
 -- lists as the call ended. A clause of the statement says of each function that its code gives a caller exactly this.
+use Rattle.std.specs.Prelude.{Some}
 use Prim.Native.Nat.{ℕ, ◌<◌}
 use mathlib.Core.Path.{◌≡◌}
 use mathlib.Core.List.{List, []}
-use mathlib.Core.Option.{some}
 use lib.IntN.{pos}
 use contract.Lifetimes.{Lfts}
 use mir.Syntax.{Callee}
@@ -118,7 +118,7 @@ pub record Promise (s : Run) : Type 1 where
   -- the book, is worked out from the Open and the calls alone
   pub answered : s ≡ played s.opening (calls_of s.past)
   -- J10 and J15: Status, called after the list, of each obligation of the list
-  pub status : (n : ℕ) (i : Instructed) → instructed_in n s.past ≡ some i → (t : Shown) → StatusCalled s.book n t →
+  pub status : (n : ℕ) (i : Instructed) → instructed_in n s.past ≡ Some i → (t : Shown) → StatusCalled s.book n t →
       StatusShows s.opening s.past n i t
   -- J11: Account, called after the list, of each member
   pub account : (m : ℕ) → m < member_count → (t : Balance) → AccountCalled s.book m t → AccountShows s.past m t

@@ -1,17 +1,16 @@
 -- What a call does: one record for all that is proved of it, and what holds of a call that changes legs or offers
 -- alone.
+use Rattle.std.specs.Prelude.{Some, None}
 use Prim.Native.Nat.{ℕ, ◌*◌, ◌≤◌, ◌<◌}
 use native.Mathlib.Omega.{arith}
 use mathlib.Core.Path.{◌≡◌, refl, ap}
 use mathlib.Core.Bool.{true, false}
 use mathlib.Core.List.{List, [], ◌++◌}
-use mathlib.Core.Option.{none, some}
 use lib.Dec.{eqb}
 use lib.ListN.{length}
 use borrow.Author.Tests.{ne_eqb}
 use Rattle.basics.specs.Choice.{pick}
 use Rattle.calendar.specs.declared.Day.{Day}
-use Rattle.calendar.specs.declared.NextDay.TheVariants.{At}
 use Rattle.offers.specs.declared.Offer.{Offer}
 use Rattle.offers.specs.Rank.{ranked}
 use Rattle.offers.specs.Held.{listed_offers}
@@ -43,7 +42,7 @@ use Rattle.journal.proofs.Rows.{rows_same}
 
 -- what the change of the legs tells of the amounts of new obligations
 abbrev pub NewAmounts : Book → Book → LegChange → Type 0
-NewAmounts b after c = (n : ℕ) → b.ledger.count ≤ n → n < after.ledger.count → amount_by n c (entered b.legs) ≡ some (obligation_at after.ledger n).deal.amount
+NewAmounts b after c = (n : ℕ) → b.ledger.count ≤ n → n < after.ledger.count → amount_by n c (entered b.legs) ≡ Some (obligation_at after.ledger n).deal.amount
 
 -- what a call leaves of what a book stores: b is the book before it, `after` the book after it, f what its event says
 pub record Leaves (b after : Book) (f : Facts) : Type 0 where
@@ -66,7 +65,7 @@ pub record Closes (b : Book) (f : Facts) (d : Ended) : Type 0 where
   pub rate : end.rate ≡ rate_of (force_of b)
   pub is_set : is_unset (force_of b) ≡ false
   pub next : Day
-  pub on : next_day b ≡ At next
+  pub on : next_day b ≡ Some next
   pub legs : f.legs ≡ neither
 
 -- what is known of a call that was given a list of collected amounts: it was not refused, and its list ended as the
@@ -81,9 +80,9 @@ pub record Does (b after : Book) (f : Facts) (words : List ℕ) : Type 0 where
   pub moves : Moves b after f
   pub leaves : Leaves b after f
   -- what it instructs is not due before today
-  pub due : (n : ℕ) (i : Instructed) → instructs n f.legs ≡ some i → b.day.today.0 ≤ i.day.0
-  pub closes : (d : Ended) → f.ends ≡ some d → Closes b f d
-  pub pays : (cs : List ℕ) → f.collects ≡ some cs → Pays b cs words
+  pub due : (n : ℕ) (i : Instructed) → instructs n f.legs ≡ Some i → b.day.today.0 ≤ i.day.0
+  pub closes : (d : Ended) → f.ends ≡ Some d → Closes b f d
+  pub pays : (cs : List ℕ) → f.collects ≡ Some cs → Pays b cs words
   -- the lines that it reported are within the list
   pub fits : words_in_line * length (reported f.ends) ≤ length words
 
@@ -91,19 +90,19 @@ pub record Does (b after : Book) (f : Facts) (words : List ℕ) : Type 0 where
 abbrev pub DoesAs : Book → Call → Outcome → Type 0
 DoesAs b c r = Does b r.book (facts (event_with c r)) r.words
 
-pub no_some : {A : Type 0} {x : A} → none ≡ some x → ⊥
+pub no_some : {A : Type 0} {x : A} → None ≡ Some x → ⊥
 no_some e = let z : ◌≡◌ {A = ℕ} 0 1 = cc in omega arith
 
 -- ---- other legs and offers, or neither
 -- nothing that a journal sums up moves
 pub moves_nothing : (b after : Book) (c : LegChange) (xs : List Offer) → Valid after → after.setup ≡ b.setup → after.day.today ≡ b.day.today →
     after.ledger.obligations ≡ b.ledger.obligations → after.ledger.count ≡ b.ledger.count → after.ledger.accounts ≡ b.ledger.accounts →
-    ((n : ℕ) → instructs n c ≡ none) → Moves b after (plain c xs)
+    ((n : ℕ) → instructs n c ≡ None) → Moves b after (plain c xs)
 moves_nothing b after c xs v setup today rows count accounts nobody =
     moves_within b after (plain c xs) refl refl v setup today accounts (rows_same b after (plain c xs) refl rows count (λ n. plain_untold c xs n (nobody n)))
 
 pub does_plain : (b after : Book) (c : LegChange) (xs : List Offer) (words : List ℕ) → Moves b after (plain c xs) → Leaves b after (plain c xs) →
-    ((n : ℕ) (i : Instructed) → instructs n c ≡ some i → b.day.today.0 ≤ i.day.0) → Does b after (plain c xs) words
+    ((n : ℕ) (i : Instructed) → instructs n c ≡ Some i → b.day.today.0 ≤ i.day.0) → Does b after (plain c xs) words
 does_plain b after c xs words m l h = record {
   moves = m;
   leaves = l;

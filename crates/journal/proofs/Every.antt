@@ -1,11 +1,10 @@
 -- What every call does, done or refused.
+use Rattle.std.specs.Prelude.{None, Some}
 use Prim.Native.Nat.{ℕ, ◌+◌, ◌-◌, ◌≤◌, ◌<◌}
-use Rattle.std.specs.Prelude.{Some, None}
 use native.Mathlib.Omega.{arith}
 use mathlib.Core.Path.{◌≡◌, refl, sym, ap, ◌∙◌}
 use mathlib.Core.Bool.{Bool, true, false}
 use mathlib.Core.List.{List, [], ◌∷◌, ◌++◌}
-use mathlib.Core.Option.{none, some}
 use lib.Dec.{eqb}
 use lib.ListN.{length, get_or, set}
 use lib.Seq.{get_or-take, get_or-set_same, length-take-le}
@@ -107,7 +106,7 @@ module _ (b : Book) (v : Valid b) where
   made_row : (new old : Leg) → fits old new ≡ true → RowNew (plain (enters b.legs.count (b.ledger.count + 1) new) []) b.ledger.count (obligation_of new old)
   unfolding obligation_of total
   made_row new old f = record {
-    instructed = rw (eq-eqb (b.ledger.count + 1) (b.ledger.count + 1) refl) (ap some (sym (made_instructed new old f)));
+    instructed = rw (eq-eqb (b.ledger.count + 1) (b.ledger.count + 1) refl) (ap Some (sym (made_instructed new old f)));
     moves = λ k. refl;
     wishes = λ m. refl;
     parts = λ k. part_by k (λ j. 0) new.quantity;
@@ -134,10 +133,10 @@ module _ (b : Book) (v : Valid b) where
   unfolding instructed_by
   instructed_day new = pick_case (λ (d : Instructed). d.day ≡ new.day) (eqb new.side 0) _ _ (λ e. refl) (λ e. refl)
 
-  due_later : (new : Leg) (k : ℕ) → b.day.today.0 ≤ new.day.0 → (n : ℕ) (i : Instructed) → instructs n (enters b.legs.count k new) ≡ some i → b.day.today.0 ≤ i.day.0
+  due_later : (new : Leg) (k : ℕ) → b.day.today.0 ≤ new.day.0 → (n : ℕ) (i : Instructed) → instructs n (enters b.legs.count k new) ≡ Some i → b.day.today.0 ≤ i.day.0
   due_later new k h n i e = by (eqb k (n + 1)) e
     where
-      by : (u : Bool) → pick u (some (instructed_by new)) none ≡ some i → b.day.today.0 ≤ i.day.0
+      by : (u : Bool) → pick u (Some (instructed_by new)) None ≡ Some i → b.day.today.0 ≤ i.day.0
       by true q = let d : instructed_by new ≡ i = cc in rw (← d, instructed_day new) h
       by false q = absurd (no_some q)
 
@@ -146,7 +145,7 @@ module _ (b : Book) (v : Valid b) where
       Does b (entered_by b new r).book (only_legs (enters (entered_by b new r).leg (entered_by b new r).obligation new)) []
   unfolding entered_alone entered_with obligation_of lowest_fit
   entered_does new None g fresh e w =
-      let nobody : (n : ℕ) → instructs n (enters b.legs.count 0 new) ≡ none = λ n. rw (ne_eqb 0 (n + 1) (λ z. absurd (omega arith))) in
+      let nobody : (n : ℕ) → instructs n (enters b.legs.count 0 new) ≡ None = λ n. rw (ne_eqb 0 (n + 1) (λ z. absurd (omega arith))) in
       does_plain b _ (enters b.legs.count 0 new) [] [] (moves_nothing b _ (enters b.legs.count 0 new) [] w refl refl refl refl refl nobody) (record {
         close_since = refl;
         has_closed = refl;
@@ -178,7 +177,7 @@ module _ (b : Book) (v : Valid b) where
         amounts = λ m h l.
             let q : m ≡ n = omega (arith, h, l) in
             rw (q, eq-eqb (n + 1) (n + 1) refl, e)
-            (ap (λ (x : Leg). some (delivering new x).amount) (entered_at k f.0)
+            (ap (λ (x : Leg). Some (delivering new x).amount) (entered_at k f.0)
             ∙ rw (get_or-set_same b.ledger.obligations n (obligation_of new old) no_obligation (omega (arith, room, v.ledger.size))));
         proper = (sym entered_length, fresh, rw e (omega (arith, entered_length, f.0), λ z. omega arith));
       }) (due_later new (n + 1) g.from_today)

@@ -1,24 +1,20 @@
 -- At every accepted Close the penalties are those of its price and of the rate in force by the events:
 -- `known_penalised`. After an accepted Close no Close of the book is refused by 26: `never_again_unset` at the end.
+use Rattle.std.specs.Prelude.{Option, Some, None}
 use Prim.Native.Nat.{ℕ, ◌≤◌}
 use native.Mathlib.Omega.{arith}
 use mathlib.Core.Path.{◌≡◌, refl, sym, ap, ap₂, ◌∙◌}
 use mathlib.Core.Bool.{Bool, true, false}
 use mathlib.Core.List.{List, [], ◌∷◌, ◌++◌}
-use mathlib.Core.Option.{Option, none, some}
 use Rattle.basics.specs.Choice.{pick}
 use Rattle.basics.proofs.Cases.{never}
 use Rattle.basics.proofs.Everywhere.{every_map}
 use Rattle.calendar.specs.declared.Day.{Day}
-use Rattle.calendar.specs.declared.NextDay.{NextDay}
-use Rattle.calendar.specs.declared.NextDay.TheVariants.{At, Never}
 use Rattle.calendar.specs.Closed.{listed_days}
 use Rattle.calendar.specs.Days.{next_after}
 use Rattle.calendar.proofs.Next.{next_at}
 use Rattle.amounts.specs.Amounts.{penalty}
 use Rattle.rates.specs.declared.RateRow.{RateRow}
-use Rattle.rates.specs.declared.InForce.{InForce}
-use Rattle.rates.specs.declared.InForce.TheVariants.{Since, Unset}
 use Rattle.rates.specs.Force.{in_force, is_unset, rate_of}
 use Rattle.rates.proofs.Ruling.{others_set, set_later, force_entered}
 use Rattle.closing.specs.declared.Line.{Line}
@@ -48,12 +44,12 @@ module _ (o : Opening) (b : Book) (es : List Event) (g : Agrees o b es) (k : Rec
   close_penalised f d c = by (force_of b) refl
     where
       -- the price and the rate are those of the Close and of the row in force
-      cents_by : (l : Line) (row : RateRow) → force_of b ≡ Since row → penalty l.quantity c.end.price c.end.rate ≡ penalty l.quantity d.price row.rate
+      cents_by : (l : Line) (row : RateRow) → force_of b ≡ Some row → penalty l.quantity c.end.price c.end.rate ≡ penalty l.quantity d.price row.rate
       cents_by l row e = ap₂ (λ (price rate : ℕ). penalty l.quantity price rate) (sym c.price) (c.rate ∙ ap rate_of e)
 
-      by : (x : InForce) → force_of b ≡ x → PenaltiesBy o es d.price d.lines
-      by Unset e = absurd (never (sym c.is_set ∙ ap is_unset e))
-      by (Since row) e = record {
+      by : (x : Option RateRow) → force_of b ≡ x → PenaltiesBy o es d.price d.lines
+      by None e = absurd (never (sym c.is_set ∙ ap is_unset e))
+      by (Some row) e = record {
         row = row;
         in_force = sym force_is ∙ e;
         cents = rw c.lines (every_map (λ l h kind. h kind ∙ cents_by l row e) (penalty_lines c.end b.ledger));
@@ -66,9 +62,9 @@ known_penalised = each_known _ (λ o b after es e g k does d q. close_penalised 
 -- ---- a row that has started stays started
 module _ (o : Opening) where
   -- today does not go back
-  moved_later : (t : NextDay) (d : Day) → next_after (listed_days (closed_days_in o)) d ≡ t → d.0 ≤ (moved_on t d).0
-  moved_later Never d q = omega arith
-  moved_later (At next) d q = omega (arith, (next_at (listed_days (closed_days_in o)) d next q).0.later)
+  moved_later : (t : Option Day) (d : Day) → next_after (listed_days (closed_days_in o)) d ≡ t → d.0 ≤ (moved_on t d).0
+  moved_later None d q = omega arith
+  moved_later (Some next) d q = omega (arith, (next_at (listed_days (closed_days_in o)) d next q).0.later)
 
   today_later : (e : Event) (es : List Event) → (today_in o es).0 ≤ (today_in o (e ∷ es)).0
   unfolding today_in
@@ -94,8 +90,8 @@ module _ (o : Opening) where
   closed_set (e ∷ es) p w = by (facts e).ends refl (closed_set es p.1)
     where
       by : (x : Option Ended) → (facts e).ends ≡ x → (was_close (latest_close es) ≡ true → is_unset (force_in o es) ≡ false) → is_unset (force_in o (e ∷ es)) ≡ false
-      by none q f = stays_set e es (f (rw q at w))
-      by (some d) q f = stays_set e es (ap is_unset (p.0 d q).in_force)
+      by None q f = stays_set e es (f (rw q at w))
+      by (Some d) q f = stays_set e es (ap is_unset (p.0 d q).in_force)
 
 -- F8, Rates: once a Close of a run was accepted, no Close after it is refused by 26
 pub never_again_unset : (s : Run) → Known s → was_close (latest_close s.past) ≡ true → (price words : ℕ) → (close s.book price words).answer ≡ 26 → ⊥

@@ -1,9 +1,9 @@
 -- Every accepted Month pays out just what it collected, each creditor its share. A Month that is given what each member
 -- owes ends as an empty one does.
+use Rattle.std.specs.Prelude.{Some}
 use Prim.Native.Nat.{ℕ}
 use mathlib.Core.Path.{◌≡◌, refl, sym, ap, ◌∙◌}
 use mathlib.Core.List.{List, map}
-use mathlib.Core.Option.{some}
 use lib.IntN.{ℤ, pos}
 use lib.ListN.{length, length-map}
 use Rattle.basics.specs.Lists.{sum, table}
@@ -63,7 +63,7 @@ month_shares o b es g cs places e =
     }
 
 module _ (o : Opening) (b after : Book) (es : List Event) (e : Event) (g : Agrees o b es) (d : Does b after (facts e) e.words) where
-  pub month_pays : (cs : List ℕ) → (facts e).collects ≡ some cs → MonthPays cs e.words es
+  pub month_pays : (cs : List ℕ) → (facts e).collects ≡ Some cs → MonthPays cs e.words es
   month_pays cs c =
       let p = d.pays cs c in
       rw p.payouts (month_shares o b es g cs p.places p.accepted)

@@ -1,11 +1,11 @@
 -- What one call moves from book to book, and that what the events tell of a journal goes with it.
+use Rattle.std.specs.Prelude.{Option, None, Some}
 use Prim.Native.Nat.{ℕ, ◌+◌, ◌≤◌, ◌<◌}
 use native.Mathlib.Omega.{arith}
 use mathlib.Core.Path.{◌≡◌, refl, sym, ap, ap₂, ◌∙◌}
 use mathlib.Core.Bool.{Bool, true, false, ◌&&◌, ◌||◌, false≢true}
 use mathlib.Core.Logic.{⊎_elim, ◌⊎◌, inl, inr}
 use mathlib.Core.List.{List, ◌∷◌}
-use mathlib.Core.Option.{Option, none, some}
 use lib.Dec.{eqb, ltb}
 use lib.IntN.{ℤ, pos, ◌+ℤ◌}
 use lib.ListN.{get_or}
@@ -31,13 +31,13 @@ use Rattle.journal.proofs.Rows.{held, held_step, instructed_from, instructed_at,
 
 -- ---- what a book holds
 abbrev pub held_instructed : Book → ℕ → Option Instructed
-held_instructed = held (λ o. some (instructed_at o)) none
+held_instructed = held (λ o. Some (instructed_at o)) None
 
 abbrev pub held_part : Part → Book → ℕ → ℕ
 held_part k = held (λ o. part_of k o.parts) 0
 
 abbrev pub held_sides : Book → ℕ → Option Sides
-held_sides = held (λ o. some (sides_of o)) none
+held_sides = held (λ o. Some (sides_of o)) None
 
 -- B9, Buy-in: the price for the cap that is stored
 abbrev pub held_price : Book → ℕ → ℕ
@@ -52,22 +52,22 @@ pub record Held (b : Book) (n : ℕ) (i : Instructed) : Type 0 where
   pub same : instructed_at (obligation_at b.ledger n) ≡ i
 
 instructed_or : Instructed → Option Instructed → Instructed
-instructed_or d none = d
-instructed_or d (some i) = i
+instructed_or d None = d
+instructed_or d (Some i) = i
 
-pub held_as : (b : Book) (n : ℕ) (i : Instructed) → held_instructed b n ≡ some i → Held b n i
+pub held_as : (b : Book) (n : ℕ) (i : Instructed) → held_instructed b n ≡ Some i → Held b n i
 unfolding instructed_or
 held_as b n i e = by (ltb n b.ledger.count) refl e
   where
-    by : (t : Bool) → ltb n b.ledger.count ≡ t → pick t (some (instructed_at (obligation_at b.ledger n))) none ≡ some i → Held b n i
+    by : (t : Bool) → ltb n b.ledger.count ≡ t → pick t (Some (instructed_at (obligation_at b.ledger n))) None ≡ Some i → Held b n i
     by true h q = record { below = ltb-true n b.ledger.count h; same = ap (instructed_or i) q }
     by false h q = absurd (none_some q)
       where
         is_some : Option Instructed → Bool
-        is_some none = false
-        is_some (some d) = true
+        is_some None = false
+        is_some (Some d) = true
 
-        none_some : none ≡ some i → ⊥
+        none_some : None ≡ Some i → ⊥
         none_some z = false≢true (ap is_some z)
 
 -- something of the obligation is outstanding, if there is one
@@ -111,11 +111,11 @@ module _ (o : Opening) (b : Book) (es : List Event) (g : Agrees o b es) where
       ap (λ (f : Part → ℕ). total f every_part + p.parts.outstanding) (λ i k. parts_are n h k i) ∙ (g.valid.ledger.sound n h).whole
 
   -- the obligation of an instruction
-  pub told_held : (n : ℕ) (i : Instructed) → instructed_in n es ≡ some i → Held b n i
+  pub told_held : (n : ℕ) (i : Instructed) → instructed_in n es ≡ Some i → Held b n i
   told_held n i e = held_as b n i (g.instructed n ∙ e)
 
   -- the quantity that is outstanding of it
-  pub outstanding_is : (n : ℕ) (i : Instructed) → instructed_in n es ≡ some i → outstanding_in n i es ≡ (obligation_at b.ledger n).parts.outstanding
+  pub outstanding_is : (n : ℕ) (i : Instructed) → instructed_in n es ≡ Some i → outstanding_in n i es ≡ (obligation_at b.ledger n).parts.outstanding
   unfolding outstanding_in
   outstanding_is n i e =
       let h = told_held n i e in
@@ -134,7 +134,7 @@ module _ (o : Opening) (b : Book) (es : List Event) (g : Agrees o b es) where
   pub sides_are : (n : ℕ) → held_sides b n ≡ sides_in n es
   sides_are n = by (ltb n b.ledger.count) ∙ ap sides_by (g.instructed n)
     where
-      by : (t : Bool) → pick t (some (sides_of (obligation_at b.ledger n))) none ≡ sides_by (pick t (some (instructed_at (obligation_at b.ledger n))) none)
+      by : (t : Bool) → pick t (Some (sides_of (obligation_at b.ledger n))) None ≡ sides_by (pick t (Some (instructed_at (obligation_at b.ledger n))) None)
       by true = refl
       by false = refl
 
@@ -144,7 +144,7 @@ module _ (o : Opening) (b : Book) (es : List Event) (g : Agrees o b es) where
   grace_is n = rw (← g.instructed n, g.setup, g.today) (by (ltb n b.ledger.count))
     where
       by : (t : Bool) → pick t (eqb (age_in o (instructed_at (obligation_at b.ledger n)) es) (terms_in o).grace.0) false ≡
-          is_grace_day o es (pick t (some (instructed_at (obligation_at b.ledger n))) none)
+          is_grace_day o es (pick t (Some (instructed_at (obligation_at b.ledger n))) None)
       by true = refl
       by false = refl
 
@@ -160,8 +160,8 @@ module _ (o : Opening) (b after : Book) (es : List Event) (e : Event) (g : Agree
 
   instructed_step : (n : ℕ) → held_instructed after n ≡ or_else (instructs n (facts e).legs) (held_instructed b n)
   instructed_step n =
-      held_step (λ o. some (instructed_at o)) none b after n (or_else (instructs n (facts e).legs)) m.rows.kept
-      (λ h. let r = m.rows.there n h in rw r.instructed (ap (λ d. some (instructed_from d)) r.later.deal))
+      held_step (λ o. Some (instructed_at o)) None b after n (or_else (instructs n (facts e).legs)) m.rows.kept
+      (λ h. let r = m.rows.there n h in rw r.instructed (ap (λ d. Some (instructed_from d)) r.later.deal))
       (λ h l. rw (m.rows.new n h l).instructed)
       (λ h. rw (m.rows.absent n h).instructed)
 
@@ -205,8 +205,8 @@ module _ (o : Opening) (b after : Book) (es : List Event) (e : Event) (g : Agree
     where
       by : is_end (facts e).ends ≡ true → (d : Option Instructed) → instructed_in n es ≡ d → is_last_day o n es d ≡ true →
           (n < after.ledger.count) × ((obligation_at after.ledger n).parts.outstanding ≡ 0)
-      by t none q x = absurd (false≢true x)
-      by t (some i) q x =
+      by t None q x = absurd (false≢true x)
+      by t (Some i) q x =
           let w = told_held o b es g n i q in
           ((still n w.below).0, m.last t n w.below (sym (age_is o b es g n i w) ∙ eqb-true _ _ x ∙ last_is o b es g n i w))
 

@@ -1,10 +1,10 @@
 -- The penalties of a Close: what its lines of kind 1 say of an account is what it does to that account.
+use Rattle.std.specs.Prelude.{Option, Some}
 use Prim.Native.Nat.{ℕ, zero, suc, ◌<◌}
 use native.Mathlib.Omega.{arith}
 use mathlib.Core.Path.{◌≡◌, refl, sym, ap, ap₂, ◌∙◌}
 use mathlib.Core.Bool.{Bool, true, false}
 use mathlib.Core.List.{List, [], ◌∷◌, ◌++◌}
-use mathlib.Core.Option.{Option, some}
 use lib.Dec.{eqb}
 use lib.IntN.{ℤ, pos, ◌+ℤ◌, +ℤ_assoc, +ℤ_idl, +ℤ_idr}
 use lib.ListN.{length, get_or}
@@ -64,19 +64,19 @@ fine_line d offers n o m sides_at =
 -- ---- accounts
 -- what the penalty of one obligation does to an account
 fined_credit : (d : DayEnd) (o : Obligation) (accounts : List ℤ) → length accounts ≡ member_count → SoundSides (sides_of o) → (m : ℕ) →
-    get_or (fined d o accounts) m (pos 0) ≡ get_or accounts m (pos 0) +ℤ pick (is_due d.today o) (credit_of m (penalty_on d o) (some (sides_of o))) (pos 0)
+    get_or (fined d o accounts) m (pos 0) ≡ get_or accounts m (pos 0) +ℤ pick (is_due d.today o) (credit_of m (penalty_on d o) (Some (sides_of o))) (pos 0)
 unfolding fined
 fined_credit d o accounts size s m = by (is_due d.today o)
   where
     by : (t : Bool) → get_or (pick t (transferred (sides_of o).debtor (sides_of o).creditor (penalty_on d o) accounts) accounts) m (pos 0) ≡
-        get_or accounts m (pos 0) +ℤ pick t (credit_of m (penalty_on d o) (some (sides_of o))) (pos 0)
+        get_or accounts m (pos 0) +ℤ pick t (credit_of m (penalty_on d o) (Some (sides_of o))) (pos 0)
     by true = transferred_credit (sides_of o).debtor (sides_of o).creditor (penalty_on d o) accounts (omega (arith, size, s.debtor_below)) (omega (arith, size, s.creditor_below)) s.apart m
     by false = sym (+ℤ_idr (get_or accounts m (pos 0)))
 
 -- what the penalties of a Close do to each account is what its lines of kind 1 say, where each obligation has its own sides
 pub accounts_reported : (d : DayEnd) (offers : List Offer) (os : List Obligation) (accounts : List ℤ) (sides_at : ℕ → Option Sides) (n : ℕ) →
     length accounts ≡ member_count → ((k : ℕ) → k < n → SoundSides (sides_of (get_or os k no_obligation))) →
-    ((k : ℕ) → k < n → sides_at k ≡ some (sides_of (get_or os k no_obligation))) →
+    ((k : ℕ) → k < n → sides_at k ≡ Some (sides_of (get_or os k no_obligation))) →
     (m : ℕ) → get_or (accounts_up_to d os accounts n) m (pos 0) ≡ get_or accounts m (pos 0) +ℤ penalties_of m sides_at (lines_up_to d offers os n)
 unfolding accounts_up_to lines_up_to penalties_of
 accounts_reported d offers os accounts sides_at zero size sound own m = sym (+ℤ_idr (get_or accounts m (pos 0)))

@@ -1,11 +1,11 @@
 -- What every book remembers of its journal: `remembered`. Since it remembers its rates, refusal 26 of Close does not
 -- come again after an accepted Close: `no_26_again` at the end.
+use Rattle.std.specs.Prelude.{None, Some}
 use Prim.Native.Nat.{ℕ, ◌≤◌, ◌<◌}
 use native.Mathlib.Omega.{arith}
 use mathlib.Core.Path.{◌≡◌, refl, sym, ap, ◌∙◌}
 use mathlib.Core.Bool.{true, false}
 use mathlib.Core.List.{List}
-use mathlib.Core.Option.{none, some}
 use lib.Dec.{ltb}
 use lib.ListN.{length, get_or, get_or-eq_default}
 use borrow.Author.Tests.{lt-ltb, le-ltb, eq-eqb, ne_eqb}
@@ -49,9 +49,9 @@ pub record Remembered (s : Run) : Type 0 where
   pub has_closed : s.book.day.has_closed ≡ was_close (latest_close s.past)
   pub last : s.book.last ≡ kept_from (latest_lines (latest_close s.past))
   -- J4, Whole journals, and E8, Enter: what each obligation was instructed to be, and its amount; there are no others
-  pub deal : (n : ℕ) → n < s.book.ledger.count → instructed_in n s.past ≡ some (instructed_at (obligation_at s.book.ledger n))
-  pub amount : (n : ℕ) → n < s.book.ledger.count → amount_in n s.past ≡ some (obligation_at s.book.ledger n).deal.amount
-  pub no_deal : (n : ℕ) → s.book.ledger.count ≤ n → instructed_in n s.past ≡ none
+  pub deal : (n : ℕ) → n < s.book.ledger.count → instructed_in n s.past ≡ Some (instructed_at (obligation_at s.book.ledger n))
+  pub amount : (n : ℕ) → n < s.book.ledger.count → amount_in n s.past ≡ Some (obligation_at s.book.ledger n).deal.amount
+  pub no_deal : (n : ℕ) → s.book.ledger.count ≤ n → instructed_in n s.past ≡ None
   -- J6 to J9, Whole journals: what became of its quantity
   pub part : (n : ℕ) → n < s.book.ledger.count → (k : Part) → part_of k (obligation_at s.book.ledger n).parts ≡ part_in k n s.past
   -- B9, Buy-in: the price of the Close at age = grace, where something is outstanding
@@ -73,8 +73,8 @@ pub record Remembered (s : Run) : Type 0 where
       (obligation_at s.book.ledger n).wishes.buyer ≡ wished_in n (obligation_at s.book.ledger n).deal.buyer s.past
   -- E2, E3 and T1, Enter and Withdraw: the legs, what each was instructed to be, and whether it waits
   pub legs : entered s.book.legs ≡ legs_in s.past
-  pub leg : (n : ℕ) → n < s.book.legs.count → leg_in n s.past ≡ some (in_state Waiting (leg_at s.book.legs n))
-  pub no_leg : (n : ℕ) → s.book.legs.count ≤ n → (leg_in n s.past ≡ none) × (waiting_in n s.past ≡ false)
+  pub leg : (n : ℕ) → n < s.book.legs.count → leg_in n s.past ≡ Some (in_state Waiting (leg_at s.book.legs n))
+  pub no_leg : (n : ℕ) → s.book.legs.count ≤ n → (leg_in n s.past ≡ None) × (waiting_in n s.past ≡ false)
   pub waiting : (n : ℕ) → n < s.book.legs.count → is_waiting (leg_at s.book.legs n).state ≡ waiting_in n s.past
 
 -- what is recalled, said of each thing by itself
@@ -100,7 +100,7 @@ told s g k p =
       grace_price = λ n h left. rw (there n h) at (g.prices n (λ z. left));
       cap_price = λ n h left old.
           let price = rw (there n h) at (g.prices n (λ z. left)) in
-          let instructed : instructed_in n s.past ≡ some (instructed_at (obligation_at l n)) = rw (← g.instructed n, there n h) in
+          let instructed : instructed_in n s.past ≡ Some (instructed_at (obligation_at l n)) = rw (← g.instructed n, there n h) in
           omega (arith, price, (p n (instructed_at (obligation_at l n)) instructed (rw (g.setup, g.today) at old)).price);
       offers = k.offers;
       rates = k.rates;

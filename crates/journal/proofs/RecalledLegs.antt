@@ -1,11 +1,10 @@
 -- The legs by the events: which leg a number names, and whether it waits.
+use Rattle.std.specs.Prelude.{Option, None, Some}
 use Prim.Native.Nat.{ℕ, zero, suc, ◌+◌, ◌-◌, ◌<◌}
-use Rattle.std.specs.Prelude.{Some, None}
 use native.Mathlib.Omega.{arith}
 use mathlib.Core.Path.{◌≡◌, refl, sym, ap, ◌∙◌}
 use mathlib.Core.Bool.{Bool, true, false, ◌&&◌, not}
 use mathlib.Core.List.{List, [], ◌∷◌, ◌++◌}
-use mathlib.Core.Option.{Option, none, some}
 use lib.Dec.{eqb, ltb}
 use lib.ListN.{length, get_or, set, length-append, length-set}
 use lib.Seq.{get_or-set_same, get_or-set_other, get_or_at}
@@ -23,7 +22,7 @@ use Rattle.journal.specs.History.{leg_into_state, legs_with, legs_after, entered
 -- ---- legs of a list
 -- leg n of these as it was instructed
 abbrev pub leg_of : ℕ → List Leg → Option Leg
-leg_of n ls = pick (ltb n (length ls)) (some (in_state Waiting (get_or ls n no_leg))) none
+leg_of n ls = pick (ltb n (length ls)) (Some (in_state Waiting (get_or ls n no_leg))) None
 
 -- whether leg n of these waits; where there is none, none waits
 abbrev pub waits_of : ℕ → List Leg → Bool
@@ -49,7 +48,7 @@ module _ (ls : List Leg) (k : ℕ) (state : LegState) (h : k < length ls) where
   state_leg : (n : ℕ) → leg_of n (leg_into_state k state ls) ≡ leg_of n ls
   state_leg n = rw (length-set ls k other) (by (eqb n k) refl)
     where
-      by : (t : Bool) → eqb n k ≡ t → pick (ltb n (length ls)) (some (in_state Waiting (get_or (set ls k other) n no_leg))) none ≡ leg_of n ls
+      by : (t : Bool) → eqb n k ≡ t → pick (ltb n (length ls)) (Some (in_state Waiting (get_or (set ls k other) n no_leg))) None ≡ leg_of n ls
       by true e = rw (eqb-true n k e, get_or-set_same ls k other no_leg h)
       by false e = rw (get_or-set_other ls k n other no_leg (eqb-false n k e))
 
@@ -72,7 +71,7 @@ module _ (ls : List Leg) (new : Leg) where
   more_length : length (ls ++ new ∷ []) ≡ length ls + 1
   more_length = length-append ls (new ∷ [])
 
-  more_leg : (n : ℕ) → leg_of n (ls ++ new ∷ []) ≡ or_else (pick (eqb (length ls) n) (some (in_state Waiting new)) none) (leg_of n ls)
+  more_leg : (n : ℕ) → leg_of n (ls ++ new ∷ []) ≡ or_else (pick (eqb (length ls) n) (Some (in_state Waiting new)) None) (leg_of n ls)
   more_leg n = rw more_length (by (eqb (length ls) n) refl)
     where
       below : (n ≡ length ls → ⊥) → ltb n (length ls + 1) ≡ ltb n (length ls)
@@ -83,7 +82,7 @@ module _ (ls : List Leg) (new : Leg) where
           under false e = le-ltb n (length ls + 1) (omega (arith, ltb-false n (length ls) e, z))
 
       by : (t : Bool) → eqb (length ls) n ≡ t →
-          pick (ltb n (length ls + 1)) (some (in_state Waiting (get_or (ls ++ new ∷ []) n no_leg))) none ≡ or_else (pick t (some (in_state Waiting new)) none) (leg_of n ls)
+          pick (ltb n (length ls + 1)) (Some (in_state Waiting (get_or (ls ++ new ∷ []) n no_leg))) None ≡ or_else (pick t (Some (in_state Waiting new)) None) (leg_of n ls)
       by true e =
           let q = eqb-true (length ls) n e in
           rw (lt-ltb n (length ls + 1) (omega arith), get_or_at ls new [] no_leg n q)
@@ -102,7 +101,7 @@ module _ (ls : List Leg) (new : Leg) where
 module _ (leg obligation : ℕ) (new : Leg) (ls : List Leg) (number : leg ≡ length ls) (fresh : in_state Waiting new ≡ new) where
   -- an Enter, by the leg that fits
   with_leg_lem : (r : Fit) → Says obligation (length ls) r → (n : ℕ) →
-      leg_of n (legs_with new obligation r ls) ≡ or_else (pick (eqb leg n) (some new) none) (leg_of n ls)
+      leg_of n (legs_with new obligation r ls) ≡ or_else (pick (eqb leg n) (Some new) None) (leg_of n ls)
   with_leg_lem None s n = more_leg ls new n ∙ rw (number, fresh)
   with_leg_lem (Some k) s n =
       let state = Matched (obligation - 1) in

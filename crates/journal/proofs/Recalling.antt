@@ -1,11 +1,11 @@
 -- Whatever calls are played from an Open, what the book stores beside its obligations is what the events tell:
 -- `played_recalls` and `known_recalls`. So what holds of each call holds of every event: `each_known` at the end.
+use Rattle.std.specs.Prelude.{Option, None, Some}
 use Prim.Native.Nat.{ℕ, ◌+◌, ◌*◌, ◌≤◌}
 use native.Mathlib.Omega.{arith}
 use mathlib.Core.Path.{◌≡◌, refl, sym, ap, ap₂, subst⁻¹, ◌∙◌}
 use mathlib.Core.Bool.{Bool, true, false}
 use mathlib.Core.List.{List, [], ◌∷◌}
-use mathlib.Core.Option.{Option, none, some}
 use lib.Dec.{ltb, eqb}
 use lib.ListN.{length}
 use borrow.Author.Tests.{le-ltb}
@@ -45,13 +45,13 @@ pub record Recalls (b : Book) (es : List Event) : Type 0 where
   pub close_since : b.day.close_since ≡ close_since_in es
   pub has_closed : b.day.has_closed ≡ was_close (latest_close es)
   pub last : b.last ≡ kept_from (latest_lines (latest_close es))
-  pub fits : (x : Event) → latest_close es ≡ some x → words_in_line * length (reported (facts x).ends) ≤ length x.words
+  pub fits : (x : Event) → latest_close es ≡ Some x → words_in_line * length (reported (facts x).ends) ≤ length x.words
   pub offers : listed_offers b.ledger.offers ≡ ranked (offers_in es)
   pub rates : listed_rates b.rates ≡ entered_rows (rates_in es)
   pub legs : entered b.legs ≡ legs_in es
   pub leg : (n : ℕ) → leg_of n (legs_in es) ≡ leg_in n es
   pub waits : (n : ℕ) → waits_of n (legs_in es) ≡ waiting_in n es
-  pub amounts : (n : ℕ) → held (λ o. some o.deal.amount) none b n ≡ amount_in n es
+  pub amounts : (n : ℕ) → held (λ o. Some o.deal.amount) None b n ≡ amount_in n es
 
 -- ---- the start
 fresh_recalls : (first : Day) (closed : ClosedDays) (terms : ℕ) → Recalls (fresh_book first closed terms) []
@@ -82,32 +82,32 @@ open_recalls o =
 module _ (b after : Book) (es : List Event) (e : Event) (r : Rows b after (facts e)) (l : Leaves b after (facts e))
     (within : words_in_line * length (reported (facts e).ends) ≤ length e.words) (k : Recalls b es) where
   -- the latest Close is this event or the one before it
-  latest_closed : (t : Bool) → pick t true (was_close (latest_close es)) ≡ was_close (pick t (some e) (latest_close es))
+  latest_closed : (t : Bool) → pick t true (was_close (latest_close es)) ≡ was_close (pick t (Some e) (latest_close es))
   latest_closed true = refl
   latest_closed false = refl
 
-  latest_lines_lem : (t : Bool) → pick t (kept_from (reported (facts e).ends)) (kept_from (latest_lines (latest_close es))) ≡ kept_from (latest_lines (pick t (some e) (latest_close es)))
+  latest_lines_lem : (t : Bool) → pick t (kept_from (reported (facts e).ends)) (kept_from (latest_lines (latest_close es))) ≡ kept_from (latest_lines (pick t (Some e) (latest_close es)))
   latest_lines_lem true = refl
   latest_lines_lem false = refl
 
-  latest_fits : (t : Bool) (x : Event) → pick t (some e) (latest_close es) ≡ some x → words_in_line * length (reported (facts x).ends) ≤ length x.words
+  latest_fits : (t : Bool) (x : Event) → pick t (Some e) (latest_close es) ≡ Some x → words_in_line * length (reported (facts x).ends) ≤ length x.words
   latest_fits true x q = let same : e ≡ x = cc in rw (← same) within
   latest_fits false x q = k.fits x q
 
   -- what is not instructed has no amount
-  no_amount_by : (n : ℕ) (c : LegChange) (ls : List Leg) → instructs n c ≡ none → amount_by n c ls ≡ none
+  no_amount_by : (n : ℕ) (c : LegChange) (ls : List Leg) → instructs n c ≡ None → amount_by n c ls ≡ None
   no_amount_by n (enters leg obligation new) ls q = by (eqb obligation (n + 1)) q
     where
-      by : (t : Bool) → pick t (some (instructed_by new)) none ≡ none → pick t (some (amount_with new (first_fit new 0 ls) ls)) none ≡ none
+      by : (t : Bool) → pick t (Some (instructed_by new)) None ≡ None → pick t (Some (amount_with new (first_fit new 0 ls) ls)) None ≡ None
       by true z = absurd (no_some (sym z))
       by false z = refl
   no_amount_by n (withdraws k) ls q = refl
   no_amount_by n neither ls q = refl
 
-  amount_step : (n : ℕ) → held (λ o. some o.deal.amount) none after n ≡ or_else (amount_by n (facts e).legs (entered b.legs)) (held (λ o. some o.deal.amount) none b n)
+  amount_step : (n : ℕ) → held (λ o. Some o.deal.amount) None after n ≡ or_else (amount_by n (facts e).legs (entered b.legs)) (held (λ o. Some o.deal.amount) None b n)
   amount_step n =
-      held_step (λ o. some o.deal.amount) none b after n (or_else (amount_by n (facts e).legs (entered b.legs))) r.kept
-      (λ h. let row = r.there n h in rw (no_amount_by n (facts e).legs (entered b.legs) row.instructed) (ap (λ d. some d.amount) row.later.deal))
+      held_step (λ o. Some o.deal.amount) None b after n (or_else (amount_by n (facts e).legs (entered b.legs))) r.kept
+      (λ h. let row = r.there n h in rw (no_amount_by n (facts e).legs (entered b.legs) row.instructed) (ap (λ d. Some d.amount) row.later.deal))
       (λ h below. rw (l.amounts n h below))
       (λ h. rw (no_amount_by n (facts e).legs (entered b.legs) (r.absent n h).instructed))
 

@@ -1,4 +1,5 @@
 -- The lines of a Close: what they say of an obligation is what the Close moves of it.
+use Rattle.std.specs.Prelude.{Some}
 use Prim.Native.Nat.{ℕ, zero, suc, ◌+◌, ◌≤◌, ◌<◌}
 use native.Mathlib.Omega.{arith}
 use native.Mathlib.Nat.{zero-add}
@@ -6,7 +7,6 @@ use mathlib.Core.Path.{◌≡◌, refl, sym, ap, ◌∙◌}
 use mathlib.Core.Bool.{Bool, true, false, ◌&&◌}
 use mathlib.Core.Logic.{⊎_elim}
 use mathlib.Core.List.{List, [], ◌∷◌, ◌++◌, append-nil}
-use mathlib.Core.Option.{some}
 use lib.Dec.{eqb}
 use lib.ListN.{get_or}
 use borrow.Author.Tests.{eq-eqb, ne_eqb}
@@ -105,7 +105,7 @@ module _ (n : ℕ) where
   moved_none o p ls e x k = ap (part_of k) e ∙ omega (arith, x k)
 
   -- a line that says what became part j of the obligation
-  moved_line : (o : Obligation) (j : Part) (l : Line) → l.obligation ≡ n → part_of_kind l.kind ≡ some j →
+  moved_line : (o : Obligation) (j : Part) (l : Line) → l.obligation ≡ n → part_of_kind l.kind ≡ Some j →
       Moved n o (record { obligation = moving j l.quantity o; lines = l ∷ [] })
   unfolding moving total quantity_to
   moved_line o j l own says k =

@@ -1,10 +1,10 @@
 -- What Again shows after a list of calls.
+use Rattle.std.specs.Prelude.{Option, None, Some}
 use Prim.Native.Nat.{ℕ, ◌*◌, ◌≤◌}
 use native.Mathlib.Omega.{arith}
 use mathlib.Core.Path.{◌≡◌, refl, sym, ap, ◌∙◌}
 use mathlib.Core.Bool.{Bool, true, false, false≢true}
 use mathlib.Core.List.{List, [], ◌∷◌}
-use mathlib.Core.Option.{Option, none, some}
 use lib.Dec.{eqb}
 use lib.ListN.{length, get_or, take}
 use Rattle.basics.specs.Choice.{pick}
@@ -32,10 +32,10 @@ use Rattle.journal.proofs.Demand3.{AgainCalled}
 
 -- ---- the latest Close
 -- the lines that an event reported were read from its list as it ended
-ends_read : (e : Event) (d : Ended) → (facts e).ends ≡ some d → d.lines ≡ lines_read (get_or e.results 0 0) e.words
+ends_read : (e : Event) (d : Ended) → (facts e).ends ≡ Some d → d.lines ≡ lines_read (get_or e.results 0 0) e.words
 ends_read e d q = by e.call (eqb e.answer 0) q
   where
-    by : (c : Call) (t : Bool) → (pick t (facts_of c e.results e.words) no_facts).ends ≡ some d → d.lines ≡ lines_read (get_or e.results 0 0) e.words
+    by : (c : Call) (t : Bool) → (pick t (facts_of c e.results e.words) no_facts).ends ≡ Some d → d.lines ≡ lines_read (get_or e.results 0 0) e.words
     by c false z = absurd (no_some z)
     by (Call.rate start rate) true z = absurd (no_some z)
     by (Call.close price lines) true z =
@@ -50,23 +50,23 @@ ends_read e d q = by e.call (eqb e.answer 0) q
     by (Call.month collected payouts) true z = absurd (no_some z)
 
 -- the latest Close ended a day
-latest_ends : (es : List Event) (e : Event) → latest_close es ≡ some e → is_end (facts e).ends ≡ true
+latest_ends : (es : List Event) (e : Event) → latest_close es ≡ Some e → is_end (facts e).ends ≡ true
 unfolding latest_close
 latest_ends [] e q = absurd (no_some q)
 latest_ends (x ∷ es) e q = by (is_end (facts x).ends) refl q (latest_ends es e)
   where
-    by : (t : Bool) → is_end (facts x).ends ≡ t → pick t (some x) (latest_close es) ≡ some e →
-        (latest_close es ≡ some e → is_end (facts e).ends ≡ true) → is_end (facts e).ends ≡ true
+    by : (t : Bool) → is_end (facts x).ends ≡ t → pick t (Some x) (latest_close es) ≡ Some e →
+        (latest_close es ≡ Some e → is_end (facts e).ends ≡ true) → is_end (facts e).ends ≡ true
     by true f z earlier = let same : x ≡ e = cc in rw (← same) f
     by false f z earlier = earlier z
 
 -- so its lines were read from its list as it ended
-latest_read : (es : List Event) (e : Event) → latest_close es ≡ some e → reported (facts e).ends ≡ lines_read (get_or e.results 0 0) e.words
+latest_read : (es : List Event) (e : Event) → latest_close es ≡ Some e → reported (facts e).ends ≡ lines_read (get_or e.results 0 0) e.words
 latest_read es e q = by (facts e).ends refl (latest_ends es e q)
   where
     by : (d : Option Ended) → (facts e).ends ≡ d → is_end d ≡ true → reported d ≡ lines_read (get_or e.results 0 0) e.words
-    by none f z = absurd (false≢true z)
-    by (some d) f z = ends_read e d f
+    by None f z = absurd (false≢true z)
+    by (Some d) f z = ends_read e d f
 
 -- ---- what Again shows
 module _ (b : Book) (es : List Event) (k : Recalls b es) (ws us : List ℕ) (t : Closed) (told : (t ≡ again b (length ws)) × (us ≡ again_words b ws)) where
@@ -82,7 +82,7 @@ module _ (b : Book) (es : List Event) (k : Recalls b es) (ws us : List ℕ) (t :
       }
 
   -- an Again that is done, after the latest Close e
-  done_shows : (e : Event) → latest_close es ≡ some e → again_answer b (length ws) ≡ 0 → AgainGives e ws us t
+  done_shows : (e : Event) → latest_close es ≡ Some e → again_answer b (length ws) ≡ 0 → AgainGives e ws us t
   unfolding again again_words
   done_shows e q z =
       let n = get_or e.results 0 0 in

@@ -1,12 +1,12 @@
 -- What a call does to the obligations of a book, row by row: `Rows`. What a book holds under a number follows a call by one
 -- law, `held_step`, whatever it is that the row stores. The rows of a call that leaves them, changes some or adds one are
 -- given here; those of a Close are in ClosedRows.
+use Rattle.std.specs.Prelude.{None, Some}
 use Prim.Native.Nat.{ℕ, ◌+◌, ◌≤◌, ◌<◌}
 use native.Mathlib.Omega.{arith}
 use native.Mathlib.Nat.{zero-add}
 use mathlib.Core.Path.{◌≡◌, refl, sym, subst}
 use mathlib.Core.Bool.{Bool, true, false, ◌&&◌, ◌||◌}
-use mathlib.Core.Option.{none, some}
 use lib.Dec.{ltb, eqb}
 use borrow.Author.Tests.{ltb-true, ltb-false}
 use Rattle.basics.specs.Choice.{pick}
@@ -70,7 +70,7 @@ shift_none p k = sym (zero-add (part_of k p))
 -- ---- what a call does to one row; f is what its event says
 -- the event says nothing of obligation n
 pub record Untold (f : Facts) (n : ℕ) : Type 0 where
-  pub instructed : instructs n f.legs ≡ none
+  pub instructed : instructs n f.legs ≡ None
   pub moves : (k : Part) → moved_by k n f ≡ 0
   pub wishes : (m : ℕ) → f.wishes n m ≡ false
 
@@ -79,14 +79,14 @@ pub record Untold (f : Facts) (n : ℕ) : Type 0 where
 -- is outstanding.
 pub record RowDoes (b : Book) (f : Facts) (n : ℕ) (o r : Obligation) : Type 0 where
   pub later : Later o r
-  pub instructed : instructs n f.legs ≡ none
+  pub instructed : instructs n f.legs ≡ None
   pub shift : Shift o.parts r.parts (λ k. moved_by k n f)
   pub price : 0 < r.parts.outstanding → r.stage.grace_price ≡ pick (is_end f.ends && at_grace b o) (price_of f.ends) o.stage.grace_price
   pub wish : (m : ℕ) → wish_of m r ≡ (f.wishes n m || wish_of m o)
 
 -- obligation n is new: as it was instructed, with no part, no price and no wish
 pub record RowNew (f : Facts) (n : ℕ) (r : Obligation) : Type 0 where
-  pub instructed : instructs n f.legs ≡ some (instructed_at r)
+  pub instructed : instructs n f.legs ≡ Some (instructed_at r)
   pub moves : (k : Part) → moved_by k n f ≡ 0
   pub wishes : (m : ℕ) → f.wishes n m ≡ false
   pub parts : (k : Part) → part_of k r.parts ≡ 0

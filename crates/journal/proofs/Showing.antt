@@ -1,10 +1,10 @@
 -- What Status, Account and Look show after a list of calls.
+use Rattle.std.specs.Prelude.{Some}
 use Prim.Native.Nat.{ℕ, ◌<◌}
 use native.Mathlib.Omega.{arith}
 use mathlib.Core.Path.{◌≡◌, refl, sym, ap, ◌∙◌}
 use mathlib.Core.Bool.{true, false≢true}
 use mathlib.Core.List.{List, [], ◌∷◌}
-use mathlib.Core.Option.{some}
 use lib.IntN.{pos}
 use lib.ListN.{get_or}
 use borrow.Author.Tests.{ltb-true, lt-ltb, le-ltb, eqb-true, eq-eqb}
@@ -33,7 +33,7 @@ use Rattle.journal.proofs.Moves.{Agrees, parts_are, sum_is, told_held, outstandi
 use Rattle.journal.proofs.Demand3.{StatusCalled, AccountCalled, LookCalled}
 
 module _ (o : Opening) (b : Book) (es : List Event) (g : Agrees o b es) where
-  pub status_shows : (n : ℕ) (i : Instructed) → instructed_in n es ≡ some i → (t : Shown) → t ≡ status b n → StatusShows o es n i t
+  pub status_shows : (n : ℕ) (i : Instructed) → instructed_in n es ≡ Some i → (t : Shown) → t ≡ status b n → StatusShows o es n i t
   unfolding status
   status_shows n i e t q =
       let h = told_held o b es g n i e in
@@ -66,11 +66,11 @@ module _ (o : Opening) (b : Book) (es : List Event) (g : Agrees o b es) where
 
   -- an obligation that is late in the book is late by the events, and the other way round
   late_told : (m n : ℕ) → n < b.ledger.count → is_late b.day.today m (obligation_at b.ledger n) ≡ true →
-      (i : Instructed) × (instructed_in n es ≡ some i) × IsLate o es m n i
+      (i : Instructed) × (instructed_in n es ≡ Some i) × IsLate o es m n i
   unfolding is_late
   late_told m n h e =
       let p = obligation_at b.ledger n in
-      let instructed : instructed_in n es ≡ some (instructed_at p) = rw (← g.instructed n, lt-ltb n b.ledger.count h) in
+      let instructed : instructed_in n es ≡ Some (instructed_at p) = rw (← g.instructed n, lt-ltb n b.ledger.count h) in
       let first = and_true _ _ e in
       let rest = and_true _ _ first.1 in (
         instructed_at p,
@@ -82,7 +82,7 @@ module _ (o : Opening) (b : Book) (es : List Event) (g : Agrees o b es) where
         },
       )
 
-  told_late : (m n : ℕ) (i : Instructed) → instructed_in n es ≡ some i → IsLate o es m n i → is_late b.day.today m (obligation_at b.ledger n) ≡ true
+  told_late : (m n : ℕ) (i : Instructed) → instructed_in n es ≡ Some i → IsLate o es m n i → is_late b.day.today m (obligation_at b.ledger n) ≡ true
   unfolding is_late
   told_late m n i e l =
       let h = told_held o b es g n i e in

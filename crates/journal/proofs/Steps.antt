@@ -1,10 +1,10 @@
 -- What a call moves that neither ends the day nor is a Month, by what it does to the rows, and the rows of such calls.
+use Rattle.std.specs.Prelude.{Option, None}
 use Prim.Native.Nat.{ℕ, ◌+◌, ◌<◌}
 use native.Mathlib.Omega.{arith}
 use mathlib.Core.Path.{◌≡◌, refl, sym, ap, ◌∙◌}
 use mathlib.Core.Bool.{Bool, true, false, ◌&&◌, ◌||◌, false≢true}
 use mathlib.Core.List.{List, []}
-use mathlib.Core.Option.{Option, none}
 use lib.Dec.{eqb}
 use lib.IntN.{ℤ, pos, ◌+ℤ◌, +ℤ_idr}
 use lib.ListN.{get_or}
@@ -37,7 +37,7 @@ unfolding penalties_of
 no_lines m sides_at z = sym (+ℤ_idr z)
 
 -- what moves by what is done to the rows, where the accounts stay
-pub moves_within : (b after : Book) (f : Facts) → f.ends ≡ none → f.collects ≡ none → Valid after → after.setup ≡ b.setup →
+pub moves_within : (b after : Book) (f : Facts) → f.ends ≡ None → f.collects ≡ None → Valid after → after.setup ≡ b.setup →
     after.day.today ≡ b.day.today → after.ledger.accounts ≡ b.ledger.accounts → Rows b after f → Moves b after f
 moves_within b after f e c v setup today accounts rows = record {
   valid = v;
@@ -54,9 +54,9 @@ moves_within b after f e c v setup today accounts rows = record {
 -- ---- other legs and offers
 -- the facts of a call that changes legs or offers, or neither
 abbrev pub plain : LegChange → List Offer → Facts
-plain c xs = record { legs = c; moves = λ k n. 0; wishes = λ n m. false; offers = xs; rates = []; ends = none; collects = none }
+plain c xs = record { legs = c; moves = λ k n. 0; wishes = λ n m. false; offers = xs; rates = []; ends = None; collects = None }
 
-pub plain_untold : (c : LegChange) (xs : List Offer) (n : ℕ) → instructs n c ≡ none → Untold (plain c xs) n
+pub plain_untold : (c : LegChange) (xs : List Offer) (n : ℕ) → instructs n c ≡ None → Untold (plain c xs) n
 unfolding total
 plain_untold c xs n e = record { instructed = e; moves = λ k. refl; wishes = λ m. refl }
 

@@ -1,4 +1,5 @@
 -- What a Close and a Month move.
+use Rattle.std.specs.Prelude.{Option, Some}
 use Prim.Native.Nat.{ℕ, ◌≤◌, ◌<◌}
 use native.Mathlib.Omega.{arith}
 use mathlib.Core.Path.{◌≡◌, refl, sym, ap}
@@ -9,8 +10,6 @@ use borrow.Author.Tests.{lt-ltb}
 use Rattle.basics.specs.Lists.{total}
 use Rattle.basics.proofs.Cases.{below_or_not}
 use Rattle.calendar.specs.declared.Day.{Day}
-use Rattle.calendar.specs.declared.NextDay.{NextDay}
-use Rattle.calendar.specs.declared.NextDay.TheVariants.{At}
 use Rattle.calendar.specs.Closed.{listed_days}
 use Rattle.calendar.proofs.Ages.{age_early}
 use Rattle.offers.specs.Held.{listed_offers}
@@ -42,14 +41,14 @@ reached b o h =
     (λ (z : o.deal.day.0 ≤ b.day.today.0). z)
     (below_or_not b.day.today.0 o.deal.day.0)
 
-pub moves_close : (b : Book) → Valid b → (d : DayEnd) → Ends b d → (next : Day) → next_day b ≡ At next →
+pub moves_close : (b : Book) → Valid b → (d : DayEnd) → Ends b d → (next : Day) → next_day b ≡ Some next →
     Moves b (closed_book b d next) (only_ends (record { price = d.price; lines = close_lines d b.ledger }))
 moves_close b v d e next q =
     let l = b.ledger in
     record {
       valid = closed_valid b v d e next q;
       setup = refl;
-      today = sym (ap (λ (t : NextDay). moved_on t b.day.today) q);
+      today = sym (ap (λ (t : Option Day). moved_on t b.day.today) q);
       rows = rows_closed b v d e next;
       accounts = accounts_reported d (listed_offers l.offers) l.obligations l.accounts (held_sides b) l.count v.ledger.accounts.size
           (λ k h. sides_sound (obligation_at l k) (v.ledger.sound k h)) (λ k h. rw (lt-ltb k l.count h));

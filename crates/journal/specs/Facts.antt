@@ -1,6 +1,5 @@
 -- What one event says: its facts. Every sum and every history of a journal takes its own from them.
-use Rattle.std.specs.Prelude.{ℕ, ◌+◌, Bool, true, false, ◌&&◌, List, [], ◌∷◌, eqb, get_or}
-use Rattle.std.proofs.Math.Option.{Option, none, some}
+use Rattle.std.specs.Prelude.{ℕ, ◌+◌, Bool, true, false, ◌&&◌, List, [], ◌∷◌, eqb, get_or, Option, None, Some}
 use Rattle.basics.specs.Choice.{pick}
 use Rattle.basics.specs.Lists.{total}
 use Rattle.calendar.specs.declared.Day.{Day}
@@ -39,19 +38,19 @@ instructed_by new =
 
 -- J4, Whole journals: an Enter that returned n + 1 instructs obligation n
 abbrev pub instructs : ℕ → LegChange → Option Instructed
-instructs n (enters leg obligation new) = pick (eqb obligation (n + 1)) (some (instructed_by new)) none
-instructs n (withdraws leg) = none
-instructs n neither = none
+instructs n (enters leg obligation new) = pick (eqb obligation (n + 1)) (Some (instructed_by new)) None
+instructs n (withdraws leg) = None
+instructs n neither = None
 
 -- ---- Close
 -- J7 and J8, Whole journals: a line of kind 3 says what was bought in, and a line of kind 4 says what was compensated
 abbrev pub part_of_kind : ℕ → Option Part
-part_of_kind kind = pick (eqb kind bought_kind) (some BoughtIn) (pick (eqb kind compensation_kind) (some Compensated) none)
+part_of_kind kind = pick (eqb kind bought_kind) (Some BoughtIn) (pick (eqb kind compensation_kind) (Some Compensated) None)
 
 -- whether there is a part and it is part k
 abbrev pub is_part : Part → Option Part → Bool
-is_part k none = false
-is_part k (some j) = same_part k j
+is_part k None = false
+is_part k (Some j) = same_part k j
 
 -- J7 and J8, Whole journals: the quantity of a line if it says what became part k of obligation n, else 0
 unfoldable pub quantity_to : Part → ℕ → Line → ℕ
@@ -65,18 +64,18 @@ pub record Ended : Type 0 where
 
 -- whether an event is an accepted Close
 abbrev pub is_end : Option Ended → Bool
-is_end none = false
-is_end (some d) = true
+is_end None = false
+is_end (Some d) = true
 
 -- J5, Whole journals: the lines that an event reported, if it is an accepted Close; there are none otherwise
 abbrev pub reported : Option Ended → List Line
-reported none = []
-reported (some d) = d.lines
+reported None = []
+reported (Some d) = d.lines
 
 -- the price of an accepted Close
 abbrev pub price_of : Option Ended → ℕ
-price_of none = 0
-price_of (some d) = d.price
+price_of None = 0
+price_of (Some d) = d.price
 
 -- ---- the facts of an event
 -- What an event says: what it does to the legs; which quantity of an obligation it moves to a part, apart from what its
@@ -94,11 +93,11 @@ pub record Facts : Type 0 where
 
 -- the facts of an event that says nothing
 abbrev pub no_facts : Facts
-no_facts = record { legs = neither; moves = λ k n. 0; wishes = λ n m. false; offers = []; rates = []; ends = none; collects = none }
+no_facts = record { legs = neither; moves = λ k n. 0; wishes = λ n m. false; offers = []; rates = []; ends = None; collects = None }
 
 -- E2, Enter; T1, Withdraw: the facts of a call that only changes the legs
 abbrev pub only_legs : LegChange → Facts
-only_legs c = record { legs = c; moves = λ k n. 0; wishes = λ n m. false; offers = []; rates = []; ends = none; collects = none }
+only_legs c = record { legs = c; moves = λ k n. 0; wishes = λ n m. false; offers = []; rates = []; ends = None; collects = None }
 
 -- J6 and J9, Whole journals: a quantity of one obligation moves to one part
 abbrev pub moves_one : Part → ℕ → ℕ → Part → ℕ → ℕ
@@ -106,23 +105,23 @@ moves_one k n q j m = pick (same_part j k && eqb m n) q 0
 
 -- the facts of a call that moves quantities and may be a wish to cancel
 abbrev pub only_moves : (Part → ℕ → ℕ) → (ℕ → ℕ → Bool) → Facts
-only_moves f w = record { legs = neither; moves = f; wishes = w; offers = []; rates = []; ends = none; collects = none }
+only_moves f w = record { legs = neither; moves = f; wishes = w; offers = []; rates = []; ends = None; collects = None }
 
 -- B5, Buy-in: the facts of a call that only enters offers
 abbrev pub only_offers : List Offer → Facts
-only_offers xs = record { legs = neither; moves = λ k n. 0; wishes = λ n m. false; offers = xs; rates = []; ends = none; collects = none }
+only_offers xs = record { legs = neither; moves = λ k n. 0; wishes = λ n m. false; offers = xs; rates = []; ends = None; collects = None }
 
 -- F3, Rates: the facts of a call that only enters rows of rates
 abbrev pub only_rates : List RateRow → Facts
-only_rates xs = record { legs = neither; moves = λ k n. 0; wishes = λ n m. false; offers = []; rates = xs; ends = none; collects = none }
+only_rates xs = record { legs = neither; moves = λ k n. 0; wishes = λ n m. false; offers = []; rates = xs; ends = None; collects = None }
 
 -- C17, Close: the facts of a Close, which ends the day
 abbrev pub only_ends : Ended → Facts
-only_ends d = record { legs = neither; moves = λ k n. 0; wishes = λ n m. false; offers = []; rates = []; ends = some d; collects = none }
+only_ends d = record { legs = neither; moves = λ k n. 0; wishes = λ n m. false; offers = []; rates = []; ends = Some d; collects = None }
 
 -- J13, Whole journals: the facts of a Month, which is given a list of collected amounts that may be empty
 abbrev pub only_collects : List ℕ → Facts
-only_collects cs = record { legs = neither; moves = λ k n. 0; wishes = λ n m. false; offers = []; rates = []; ends = none; collects = some cs }
+only_collects cs = record { legs = neither; moves = λ k n. 0; wishes = λ n m. false; offers = []; rates = []; ends = None; collects = Some cs }
 
 -- J6, J9 and J13, Whole journals; N5, Again: what an accepted call says, by its results and by its list as it ended. A
 -- Deliver delivers its quantity. A Cancel cancels what it returned. An Again changes nothing, and its lines are not

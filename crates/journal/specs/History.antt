@@ -1,10 +1,8 @@
 -- What a book stores besides its obligations, told by the events alone. The latest event comes first.
-use Rattle.std.specs.Prelude.{ℕ, ◌+◌, ◌-◌, Bool, true, false, ◌&&◌, not, List, [], ◌∷◌, ◌++◌, eqb, get_or, set, Some, None}
-use Rattle.std.proofs.Math.Option.{Option, none, some}
+use Rattle.std.specs.Prelude.{ℕ, ◌+◌, ◌-◌, Bool, true, false, ◌&&◌, not, List, [], ◌∷◌, ◌++◌, eqb, get_or, set, Option, None, Some}
 use Rattle.basics.specs.Choice.{pick}
 use Rattle.offers.specs.declared.Offer.{Offer}
 use Rattle.rates.specs.declared.RateRow.{RateRow}
-use Rattle.rates.specs.declared.InForce.{InForce}
 use Rattle.rates.specs.Force.{in_force}
 use Rattle.instructions.specs.declared.Leg.{Leg}
 use Rattle.instructions.specs.declared.LegState.{LegState}
@@ -24,18 +22,18 @@ close_since_in (e ∷ es) = pick (is_end (facts e).ends) true (pick (is_month (f
 
 -- N2 and N3, Again: the latest accepted Close, if there was one
 unfoldable pub latest_close : List Event → Option Event
-latest_close [] = none
-latest_close (e ∷ es) = pick (is_end (facts e).ends) (some e) (latest_close es)
+latest_close [] = None
+latest_close (e ∷ es) = pick (is_end (facts e).ends) (Some e) (latest_close es)
 
 -- R22, Refusals: whether there was a Close
 abbrev pub was_close : Option Event → Bool
-was_close none = false
-was_close (some e) = true
+was_close None = false
+was_close (Some e) = true
 
 -- N2 and N4, Again: the lines that the latest Close reported; there are none if there was no Close
 abbrev pub latest_lines : Option Event → List Line
-latest_lines none = []
-latest_lines (some e) = reported (facts e).ends
+latest_lines None = []
+latest_lines (Some e) = reported (facts e).ends
 
 -- B5, Buy-in: the offers since the last accepted Close, the latest first. An accepted Close removes them.
 unfoldable pub offers_in : List Event → List Offer
@@ -50,7 +48,7 @@ rates_in (e ∷ es) = (facts e).rates ++ rates_in es
 
 -- J18, Whole journals: the row in force after these events: of the accepted Rates whose starting day is not after
 -- today, the one with the greatest starting day, and the latest of those with this day
-unfoldable pub force_in : Opening → List Event → InForce
+unfoldable pub force_in : Opening → List Event → Option RateRow
 force_in o es = in_force (today_in o es) (rates_in es)
 
 -- ---- Enter and Withdraw
@@ -85,24 +83,24 @@ amount_with new (Some k) ls = (delivering new (get_or ls k no_leg)).amount
 
 -- E8, Enter: the amount of obligation n, if a change makes this obligation; these are the legs before the change
 abbrev pub amount_by : ℕ → LegChange → List Leg → Option ℕ
-amount_by n (enters leg obligation new) ls = pick (eqb obligation (n + 1)) (some (amount_with new (first_fit new 0 ls) ls)) none
-amount_by n (withdraws k) ls = none
-amount_by n neither ls = none
+amount_by n (enters leg obligation new) ls = pick (eqb obligation (n + 1)) (Some (amount_with new (first_fit new 0 ls) ls)) None
+amount_by n (withdraws k) ls = None
+amount_by n neither ls = None
 
 -- E8, Enter: the amount of obligation n, if an accepted Enter returned its number plus 1
 unfoldable pub amount_in : ℕ → List Event → Option ℕ
-amount_in n [] = none
+amount_in n [] = None
 amount_in n (e ∷ es) = or_else (amount_by n (facts e).legs (legs_in es)) (amount_in n es)
 
 -- E11, Enter: the leg that a change enters under number n
 abbrev pub entered_as : ℕ → LegChange → Option Leg
-entered_as n (enters leg obligation new) = pick (eqb leg n) (some new) none
-entered_as n (withdraws k) = none
-entered_as n neither = none
+entered_as n (enters leg obligation new) = pick (eqb leg n) (Some new) None
+entered_as n (withdraws k) = None
+entered_as n neither = None
 
 -- E11, Enter: leg n as it was instructed, if an accepted Enter returned its number
 unfoldable pub leg_in : ℕ → List Event → Option Leg
-leg_in n [] = none
+leg_in n [] = None
 leg_in n (e ∷ es) = or_else (entered_as n (facts e).legs) (leg_in n es)
 
 -- whether leg n is the leg that fits

@@ -1,8 +1,7 @@
 -- What is promised of every journal. Nothing here reads the book: all is said of what calls answer, from the Open and
 -- the events alone. Only the clauses `-same` in journal/proofs/Demand3.antt speak of a book: the calls that show
 -- something return the book that they were given.
-use Rattle.std.specs.Prelude.{ℕ, ◌+◌, ◌*◌, ◌/◌, ◌≤◌, ◌<◌, ◌≡◌, true, ◌&&◌, ◌⊎◌, List, [], ◌∷◌, map, eqb, length, get_or, take, drop}
-use Rattle.std.proofs.Math.Option.{none, some}
+use Rattle.std.specs.Prelude.{ℕ, ◌+◌, ◌*◌, ◌/◌, ◌≤◌, ◌<◌, ◌≡◌, true, ◌&&◌, ◌⊎◌, List, [], ◌∷◌, map, eqb, length, get_or, take, drop, None, Some}
 use Rattle.basics.specs.Choice.{pick}
 use Rattle.basics.specs.Lists.{sum, total, Every}
 use Rattle.amounts.specs.Amounts.{penalty}
@@ -11,7 +10,6 @@ use Rattle.offers.specs.declared.Given.{Given}
 use Rattle.offers.specs.Rank.{InOrder}
 use Rattle.offers.specs.BuyIn.{given}
 use Rattle.rates.specs.declared.RateRow.{RateRow}
-use Rattle.rates.specs.declared.InForce.TheVariants.{Since}
 use Rattle.ledger.specs.declared.Part.{Part}
 use Rattle.ledger.specs.declared.Part.TheVariants.{BoughtIn}
 use Rattle.ledger.specs.Parts.{part_of, every_part}
@@ -54,8 +52,8 @@ pub record IsLate (o : Opening) (es : List Event) (m n : ℕ) (i : Instructed) :
 -- L3 and L4, Reading: what Look shows of a member's late obligations after the list: 0 if there is none, else the
 -- number plus 1 of one of them
 pub data LateShown (o : Opening) (es : List Event) (m : ℕ) : ℕ → Type 0 where
-  none_late : ((n : ℕ) (i : Instructed) → instructed_in n es ≡ some i → IsLate o es m n i → ⊥) → LateShown o es m 0
-  one_late : (n : ℕ) (i : Instructed) → instructed_in n es ≡ some i → IsLate o es m n i → LateShown o es m (n + 1)
+  none_late : ((n : ℕ) (i : Instructed) → instructed_in n es ≡ Some i → IsLate o es m n i → ⊥) → LateShown o es m 0
+  one_late : (n : ℕ) (i : Instructed) → instructed_in n es ≡ Some i → IsLate o es m n i → LateShown o es m (n + 1)
 
 -- L3, Reading: what Look shows of a member after the list
 pub record LookShows (o : Opening) (es : List Event) (m : ℕ) (t : Looked) : Type 0 where
@@ -81,8 +79,8 @@ pub record AgainGives (e : Event) (ws us : List ℕ) (t : Closed) : Type 0 where
 -- accepted Close gave if there was one.
 pub record AgainShows (es : List Event) (ws us : List ℕ) (t : Closed) : Type 0 where
   pub short : length ws < fewest_words → AgainRefused 5 ws us t
-  pub before : fewest_words ≤ length ws → latest_close es ≡ none → AgainRefused 22 ws us t
-  pub after : fewest_words ≤ length ws → (e : Event) → latest_close es ≡ some e → AgainGives e ws us t
+  pub before : fewest_words ≤ length ws → latest_close es ≡ None → AgainRefused 22 ws us t
+  pub after : fewest_words ≤ length ws → (e : Event) → latest_close es ≡ Some e → AgainGives e ws us t
 
 -- J14, Whole journals: what a creditor with claim g gets of c, where all claims add up to whole: c × g / whole, rounded
 -- down, or one cent more, and no more than g
@@ -106,7 +104,7 @@ EachEvent P (e ∷ es) = P e es × EachEvent P es
 
 -- J13 and J14, Whole journals: every accepted Month of a journal pays as these items say
 abbrev pub EveryMonth : List Event → Type 0
-EveryMonth es = EachEvent (λ e earlier. (amounts : List ℕ) → (facts e).collects ≡ some amounts → MonthPays amounts e.words earlier) es
+EveryMonth es = EachEvent (λ e earlier. (amounts : List ℕ) → (facts e).collects ≡ Some amounts → MonthPays amounts e.words earlier) es
 
 -- B9, Buy-in: the price for the cap of an obligation is there: a Close was accepted at age = grace, and its price is at
 -- least 1
@@ -116,7 +114,7 @@ pub record HasCapPrice (o : Opening) (es : List Event) (n : ℕ) : Type 0 where
 
 -- B9, Buy-in: every obligation of a journal whose age is above grace has its price for the cap
 abbrev pub EveryCapPrice : Opening → List Event → Type 0
-EveryCapPrice o es = (n : ℕ) (i : Instructed) → instructed_in n es ≡ some i → (terms_in o).grace.0 < age_in o i es → HasCapPrice o es n
+EveryCapPrice o es = (n : ℕ) (i : Instructed) → instructed_in n es ≡ Some i → (terms_in o).grace.0 < age_in o i es → HasCapPrice o es n
 
 -- C11 and C12, Close: what a line of a bought quantity says of the offer that gave it: how much, by which supplier and
 -- at which price
@@ -148,7 +146,7 @@ pub record BoughtInTurn (earlier : List Event) (n left : ℕ) (ls : List Line) :
 -- C7, Close: of every obligation that is in its buy-in days after these events, with an age above grace and not above
 -- last and something outstanding, these lines say what its offers give, taken in the order of C7
 abbrev pub BuysInTurn : Opening → List Event → List Line → Type 0
-BuysInTurn o earlier ls = (n : ℕ) (i : Instructed) → instructed_in n earlier ≡ some i → 0 < outstanding_in n i earlier →
+BuysInTurn o earlier ls = (n : ℕ) (i : Instructed) → instructed_in n earlier ≡ Some i → 0 < outstanding_in n i earlier →
     in_buy_in (terms_in o).grace.0 (last_in o n i earlier) (age_in o i earlier) ≡ true → BoughtInTurn earlier n (outstanding_in n i earlier) ls
 
 -- C7 and C8, Close: every accepted Close of a journal buys in from the offers in the order of C7
@@ -159,10 +157,10 @@ EveryBuyIn o es = EachEvent (λ e earlier. is_end (facts e).ends ≡ true → Bu
 -- before it, and the cents of each penalty are those of its quantity, of the price and of the rate of this row.
 pub record PenaltiesBy (o : Opening) (earlier : List Event) (price : ℕ) (ls : List Line) : Type 0 where
   pub row : RateRow
-  pub in_force : force_in o earlier ≡ Since row
+  pub in_force : force_in o earlier ≡ Some row
   pub cents : Every (λ l. l.kind ≡ penalty_kind → l.cents ≡ penalty l.quantity price row.rate) ls
 
 -- J18, Whole journals: the penalties of every accepted Close of a journal are those of its price and of the rate in
 -- force
 abbrev pub EveryPenalty : Opening → List Event → Type 0
-EveryPenalty o es = EachEvent (λ e earlier. (d : Ended) → (facts e).ends ≡ some d → PenaltiesBy o earlier d.price d.lines) es
+EveryPenalty o es = EachEvent (λ e earlier. (d : Ended) → (facts e).ends ≡ Some d → PenaltiesBy o earlier d.price d.lines) es

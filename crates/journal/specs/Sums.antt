@@ -1,13 +1,10 @@
 -- The sums over a journal, from its Open and its events alone. The latest event comes first.
-use Rattle.std.specs.Prelude.{ℕ, ◌-◌, Bool, true, false, ◌&&◌, ◌||◌, List, [], ◌∷◌, eqb, ℤ, pos, ◌+ℤ◌, ◌-ℤ◌}
-use Rattle.std.proofs.Math.Option.{Option, none, some}
+use Rattle.std.specs.Prelude.{ℕ, ◌-◌, Bool, true, false, ◌&&◌, ◌||◌, List, [], ◌∷◌, eqb, ℤ, pos, ◌+ℤ◌, ◌-ℤ◌, Option, Some, None}
 use Rattle.basics.specs.Choice.{pick}
 use Rattle.basics.specs.Lists.{total, table}
 use Rattle.basics.specs.Refusals.{answer, outcome}
 use Rattle.calendar.specs.declared.Day.{Day}
 use Rattle.calendar.specs.declared.ClosedDays.{ClosedDays}
-use Rattle.calendar.specs.declared.NextDay.{NextDay}
-use Rattle.calendar.specs.declared.NextDay.TheVariants.{At, Never}
 use Rattle.calendar.specs.Closed.{day, closed_days, listed_days}
 use Rattle.calendar.specs.Days.{age_at, next_after}
 use Rattle.netting.specs.Accounts.{member_count, claim, owed}
@@ -47,9 +44,9 @@ terms_in o = (setup_in o).terms
 
 -- C17, Close: today moves on to the next clearing day. An accepted Close has one: without a next clearing day a Close
 -- is refused by 20 (R20), so the day stays.
-abbrev pub moved_on : NextDay → Day → Day
-moved_on (At next) today = next
-moved_on Never today = today
+abbrev pub moved_on : Option Day → Day → Day
+moved_on (Some next) today = next
+moved_on None today = today
 
 -- O5, Open; C17, Close: today is Open's first day, moved on to the next clearing day by each accepted Close
 unfoldable pub today_in : Opening → List Event → Day
@@ -59,12 +56,12 @@ today_in o (e ∷ es) = pick (is_end (facts e).ends) (moved_on (next_after (list
 -- ---- the obligations of a journal
 -- the first of two values if it is there, and the second if not
 abbrev pub or_else : {A : Type 0} → Option A → Option A → Option A
-or_else (some x) y = some x
-or_else none y = y
+or_else (Some x) y = Some x
+or_else None y = y
 
 -- J4, Whole journals: the obligations of a journal are those whose number plus 1 an accepted Enter returned
 unfoldable pub instructed_in : ℕ → List Event → Option Instructed
-instructed_in n [] = none
+instructed_in n [] = None
 instructed_in n (e ∷ es) = or_else (instructs n (facts e).legs) (instructed_in n es)
 
 -- J6 to J9, Whole journals: what became part k of an obligation. Delivered is the sum of the quantities of its accepted
@@ -89,8 +86,8 @@ wished_in n m (e ∷ es) = (facts e).wishes n m || wished_in n m es
 
 -- B8, Buy-in: whether the age of what was instructed is grace, after these events
 abbrev pub is_grace_day : Opening → List Event → Option Instructed → Bool
-is_grace_day o es none = false
-is_grace_day o es (some i) = eqb (age_in o i es) (terms_in o).grace.0
+is_grace_day o es None = false
+is_grace_day o es (Some i) = eqb (age_in o i es) (terms_in o).grace.0
 
 -- B8 and B9, Buy-in: the price for the cap of an obligation is that of the accepted Close at age = grace, which is the
 -- age on the day that this Close ends. Before such a Close it is 0.
@@ -107,8 +104,8 @@ grace_closed_in o n (e ∷ es) = grace_closed_in o n es || (is_end (facts e).end
 -- ---- the accounts of a journal
 -- C5, Close: the sides of a penalty of what was instructed
 abbrev pub sides_by : Option Instructed → Option Sides
-sides_by none = none
-sides_by (some i) = some (sides i.seller i.buyer)
+sides_by None = None
+sides_by (Some i) = Some (sides i.seller i.buyer)
 
 -- C5, Close: the sides of a penalty of obligation n at a Close after these events
 abbrev pub sides_in : ℕ → List Event → Option Sides
@@ -116,8 +113,8 @@ sides_in n es = sides_by (instructed_in n es)
 
 -- C5, Close: what the cents of a penalty with these sides credit to a member, less what they debit to it
 abbrev pub credit_of : ℕ → ℕ → Option Sides → ℤ
-credit_of m cents none = pos 0
-credit_of m cents (some s) = pick (eqb s.creditor m) (pos cents) (pos 0) -ℤ pick (eqb s.debtor m) (pos cents) (pos 0)
+credit_of m cents None = pos 0
+credit_of m cents (Some s) = pick (eqb s.creditor m) (pos cents) (pos 0) -ℤ pick (eqb s.debtor m) (pos cents) (pos 0)
 
 -- C5 and C12, Close: what the penalties among these lines, which are of kind 1, credit to a member, less what they
 -- debit to it, if each obligation has these sides
@@ -127,8 +124,8 @@ penalties_of m sides_at (l ∷ ls) = pick (eqb l.kind penalty_kind) (credit_of m
 
 -- whether an event is a Month, by the list of collected amounts in its facts; an empty list is a list too
 abbrev pub is_month : Option (List ℕ) → Bool
-is_month none = false
-is_month (some cs) = true
+is_month None = false
+is_month (Some cs) = true
 
 -- J11, Whole journals: what the penalty lines since the last accepted Month, or since the start if there was none,
 -- credited to a member, less what they debited to it
@@ -156,8 +153,8 @@ last_in o n i es = (terms_in o).last.0
 
 -- B3, Buy-in: whether today is the last day of obligation n, after these events
 abbrev pub is_last_day : Opening → ℕ → List Event → Option Instructed → Bool
-is_last_day o n es none = false
-is_last_day o n es (some i) = eqb (age_in o i es) (last_in o n i es)
+is_last_day o n es None = false
+is_last_day o n es (Some i) = eqb (age_in o i es) (last_in o n i es)
 
 -- J15, Whole journals: whether a Close was accepted on the last day of an obligation
 unfoldable pub last_closed_in : Opening → ℕ → List Event → Bool

@@ -1,7 +1,9 @@
 -- The ledger: obligations, offers and accounts.
-use Rattle.std.specs.Prelude.{ℕ, ◌+◌, ◌*◌, ◌≤◌, ◌<◌, ◌≡◌, false, List, eqb, ltb, ℤ, pos, length, get_or, set, replicate}
+use Rattle.std.specs.Prelude.{ℕ, ◌+◌, ◌*◌, ◌≤◌, ◌<◌, ◌≡◌, false, List, eqb, ltb, ℤ, pos, length, get_or, set, replicate, Result, Ok, Err}
 use Rattle.basics.specs.Choice.{pick}
 use Rattle.basics.specs.Lists.{Every, Sorted}
+use Rattle.basics.specs.declared.Reason.{Reason}
+use Rattle.basics.specs.Reasons.{number_of}
 use Rattle.amounts.specs.Amounts.{most_quantity, most_offer_price, most_penalty}
 use Rattle.netting.specs.Accounts.{member_count, balance}
 use Rattle.offers.specs.declared.Offer.{Offer}
@@ -44,13 +46,24 @@ fetched l n = pick (ltb n l.count) (Found (obligation_at l n)) Absent
 abbrev pub with_obligation : ℕ → Obligation → Ledger → Ledger
 with_obligation n o l = record { obligations = set l.obligations n o; count = l.count; offers = l.offers; accounts = l.accounts }
 
+-- what a call comes to on the obligation that it names: its answer number, its result, and the obligation as it is then
+pub record Effect : Type 0 where
+  pub answer : ℕ
+  pub result : ℕ
+  pub obligation : Obligation
+
 -- A5, Refusals: what a call on an obligation comes to if it is refused by a number: no result, and no obligation
-abbrev pub refused_change : ℕ → Change
+abbrev pub refused_change : ℕ → Effect
 refused_change k = record { answer = k; result = 0; obligation = no_obligation }
+
+-- A5, Refusals: what a call on an obligation comes to, done or refused for a reason
+abbrev pub effect_of : Result Change Reason → Effect
+effect_of (Ok c) = record { answer = 0; result = c.result; obligation = c.obligation }
+effect_of (Err reason) = refused_change (number_of reason)
 
 -- A5, Refusals: the ledger after a call on obligation n. If the call is done, the obligation is what the call made of
 -- it; a refused call changes nothing.
-abbrev pub changed : ℕ → Change → Ledger → Ledger
+abbrev pub changed : ℕ → Effect → Ledger → Ledger
 changed n c l = pick (eqb c.answer 0) (with_obligation n c.obligation l) l
 
 -- E8, Enter: a new obligation gets the next number, from 0 on

@@ -3,14 +3,16 @@
 #![tactic(auto)]
 
 ghost use Rattle.std.specs.Prelude.{◌≡◌, ◌+◌, ◌≤◌, ◌<◌};
+ghost use Rattle.basics.specs.Reasons.{answer_of};
 ghost use Rattle.amounts.specs.Amounts.{most_quantity, most_close_price};
 ghost use Rattle.ledger.specs.Setup.{ValidTerms};
 ghost use Rattle.ledger.specs.Parts.{moved, all_parts};
 ghost use Rattle.ledger.specs.Obligations.{new_obligation, settled, cash_of, moving, Sound, Takes};
 ghost use Rattle.ledger.specs.Obligations.{last_of, in_buy_in, is_due, sides_of, with_grace_price};
 ghost use Rattle.ledger.specs.Obligations.{is_party, has_wished, with_wish, both_wish, wishing, moved_by_wish};
-ghost use Rattle.ledger.specs.Ledger.{most_obligations, new_ledger, fetched, refused_change, changed, cleared_ledger};
+ghost use Rattle.ledger.specs.Ledger.{most_obligations, new_ledger, fetched, effect_of, changed, cleared_ledger};
 
+use basics::Reason;
 use calendar::{ClearingDays, ClosedDays, Day};
 use netting::MEMBER_COUNT;
 use offers::Offers;
@@ -116,16 +118,15 @@ pub enum Fetched {
     Absent,
 }
 
-// What a call comes to on the obligation that it names: its answer number, its result, and the obligation as it is
-// then. A refused call has the result 0, and its obligation is not used.
+// What a call that is done comes to on the obligation that it names: its result, and the obligation as it is then.
 #[derive(Clone, Copy)]
 pub struct Change {
-    pub answer: u64,
     pub result: u64,
     pub obligation: Obligation,
 }
 
-// The obligations, numbered from 0 (the first count of them), the offers of today and the accounts.
+// The obligations, numbered from 0 (the first count of them), the offers of today and the accounts. The obligations are an
+// array and a count, because the definitions build the ledger and compare it, and a heap could run out.
 #[derive(Clone, Copy)]
 pub struct Ledger {
     pub obligations: [Obligation; MOST_OBLIGATIONS],
@@ -134,7 +135,8 @@ pub struct Ledger {
     pub accounts: [i64; MEMBER_COUNT],
 }
 
-// The parts of a quantity of 0.
+// The parts of a quantity of 0. They and the three values below are constants and no defaults, since a default Day would
+// be a day 0, which no rule speaks of.
 pub const NO_PARTS: Parts = Parts {
     delivered: 0,
     bought_in: 0,
@@ -170,25 +172,25 @@ const NO_OBLIGATION: Obligation = Obligation {
 pub fn buys_in(grace: ClearingDays, last: ClearingDays, age: ClearingDays) -> bool
     ensures { result ≡ in_buy_in grace.0 last.0 age.0 }
 {
-    grace.0 < age.0 && age.0 <= last.0
+    grace < age && age <= last
 }
 
 impl Parts {
     // Moves a quantity from outstanding to a part.
-    pub fn move_to(self, part: Part, quantity: u64) -> Parts
+    #[tactic(auto, unfolding(crate::specs::Parts::all_parts, basics::specs::Lists::total))]
+    pub fn move_to(mut self, part: Part, quantity: u64) -> Parts
         requires { (quantity ≤ self.outstanding) × (all_parts self ≤ most_quantity) }
         ensures { result ≡ moved part quantity self }
     {
         let units = quantity as u32;
-        let mut next = self;
-        next.outstanding -= units;
+        self.outstanding -= units;
         match part {
-            Part::Delivered => next.delivered += units,
-            Part::BoughtIn => next.bought_in += units,
-            Part::Compensated => next.compensated += units,
-            Part::Cancelled => next.cancelled += units,
+            Part::Delivered => self.delivered += units,
+            Part::BoughtIn => self.bought_in += units,
+            Part::Compensated => self.compensated += units,
+            Part::Cancelled => self.cancelled += units,
         }
-        next
+        self
     }
 }
 
@@ -197,11 +199,12 @@ impl Obligation {
     pub fn new(deal: Deal) -> Obligation
         ensures { result ≡ new_obligation deal }
     {
-        let mut parts = NO_PARTS;
-        parts.outstanding = deal.quantity;
         Obligation {
             deal: deal,
-            parts: parts,
+            parts: Parts {
+                outstanding: deal.quantity,
+                ..NO_PARTS
+            },
             stage: NEW_STAGE,
             wishes: NO_WISHES,
         }
@@ -237,11 +240,10 @@ impl Obligation {
         requires { Takes self quantity }
         ensures { result ≡ moving part quantity self }
     {
-        let parts = self.parts;
-        let after = parts.move_to(part, quantity);
-        let mut next = self;
-        next.parts = after;
-        next
+        Obligation {
+            parts: self.parts.move_to(part, quantity),
+            ..self
+        }
     }
 
     // The age of the obligation on its last day, by the terms of the book.
@@ -269,7 +271,7 @@ impl Obligation {
     pub fn is_due(self, today: Day) -> bool
         ensures { result ≡ is_due today self }
     {
-        self.deal.day.0 <= today.0 && 0 < self.parts.outstanding
+        self.deal.day <= today && 0 < self.parts.outstanding
     }
 
     // Keeps the price of the Close at age = grace.
@@ -277,10 +279,12 @@ impl Obligation {
         requires { price ≤ most_close_price }
         ensures { result ≡ with_grace_price price self }
     {
-        let mut next = self;
-        let kept = price as u32;
-        next.stage.grace_price = kept;
-        next
+        Obligation {
+            stage: Stage {
+                grace_price: price as u32,
+            },
+            ..self
+        }
     }
 
     // Whether a member is the seller or the buyer.
@@ -297,23 +301,23 @@ impl Obligation {
         ensures { result ≡ has_wished self member }
     {
         if self.deal.seller as u64 == member {
-            return self.wishes.seller;
+            self.wishes.seller
+        } else {
+            self.wishes.buyer
         }
-        self.wishes.buyer
     }
 
     // Records a party's wish to cancel.
     #[tactic(auto, unfolding(crate::specs::Obligations::with_wish))]
-    fn with_wish(self, member: u64) -> Obligation
+    fn with_wish(mut self, member: u64) -> Obligation
         ensures { result ≡ with_wish member self }
     {
-        let mut next = self;
         if self.deal.seller as u64 == member {
-            next.wishes.seller = true;
-            return next;
+            self.wishes.seller = true;
+        } else {
+            self.wishes.buyer = true;
         }
-        next.wishes.buyer = true;
-        next
+        self
     }
 
     // Whether both parties wish to cancel.
@@ -343,8 +347,7 @@ impl Obligation {
     pub fn moved_by_wish(self, member: u64) -> u64
         ensures { result ≡ moved_by_wish member self }
     {
-        let next = self.with_wish(member);
-        if next.both_wish() {
+        if self.with_wish(member).both_wish() {
             self.parts.outstanding as u64
         } else {
             0
@@ -352,16 +355,13 @@ impl Obligation {
     }
 }
 
-impl Change {
-    // What a call comes to that is refused by a number.
-    pub fn refused(number: u64) -> Change
-        ensures { result ≡ refused_change number }
-    {
-        Change {
-            answer: number,
-            result: 0,
-            obligation: NO_OBLIGATION,
-        }
+// The result of a call on an obligation; a refused call has the result 0.
+pub fn result_of(change: &Result<Change, Reason>) -> u64
+    ensures { result ≡ (effect_of change.now).result }
+{
+    match change {
+        Ok(done) => done.result,
+        Err(_) => 0,
     }
 }
 
@@ -391,12 +391,12 @@ impl Ledger {
     }
 
     // Puts the obligation that a call has changed under its number. A refused call changes nothing.
-    pub fn change(&mut self, number: u64, change: Change)
-        requires { change.answer ≡ 0 → number < most_obligations }
-        ensures { self.new ≡ changed number change self.old }
+    pub fn change(&mut self, number: u64, change: &Result<Change, Reason>)
+        requires { answer_of change.now ≡ 0 → number < most_obligations }
+        ensures { self.new ≡ changed number (effect_of change.now) self.old }
     {
-        if change.answer == 0 {
-            self.obligations[number as usize] = change.obligation;
+        if let Ok(done) = change {
+            self.obligations[number as usize] = done.obligation;
         }
     }
 

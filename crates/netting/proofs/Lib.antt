@@ -1,4 +1,5 @@
 -- Laws of the accounts and of the month's shares.
+pub mod Library
 pub mod Debts
 pub mod Ranks
 pub mod Shared

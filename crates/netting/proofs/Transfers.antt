@@ -1,5 +1,5 @@
 -- Laws on a transfer between two accounts: what it does to each account, and that the balance stays the same.
-use Prim.Native.Nat.{ℕ, zero, suc, ◌+◌, ◌^◌, ◌≤◌, ◌<◌}
+use Prim.Native.Nat.{ℕ, zero, suc, ◌+◌, ◌≤◌, ◌<◌}
 use native.Mathlib.Omega.{arith}
 use mathlib.Core.Bool.{Bool, true, false}
 use mathlib.Core.List.{List, [], ◌∷◌}
@@ -8,12 +8,10 @@ use lib.Dec.{eqb}
 use lib.IntN.{ℤ, pos, neg_ℤ, ◌+ℤ◌, ◌-ℤ◌, nat_abs, +ℤ_assoc, +ℤ_comm, +ℤ_idl, +ℤ_idr, -ℤ-+ℤ_cancel}
 use lib.ListN.{length, get_or, set, length-set}
 use lib.Seq.{get_or-set_same, get_or-set_other, set-set, set-get_or}
-use mir.Syntax.{w64}
-use mir.Val.{SFits, to_z}
 use borrow.Author.Tests.{eqb-true, eqb-false}
 use Rattle.basics.specs.Choice.{pick}
-use Rattle.netting.specs.Accounts.{member_count, debited, credited, transferred, balance, Transferable}
-use Rattle.netting.proofs.Signed.{read, sum_abs, negative_abs, plus_fits, plus_is, minus_fits, minus_is}
+use Rattle.netting.specs.Accounts.{debited, credited, transferred, balance}
+use Rattle.netting.proofs.Signed.{sum_abs, negative_abs}
 
 -- the account of member m
 abbrev pub account_of : List ℤ → ℕ → ℤ
@@ -113,34 +111,6 @@ module _ (d c n : ℕ) (accounts : List ℤ) where
         by : (t : Bool) → eqb d c ≡ t → nat_abs (account_of after m) ≤ nat_abs (account_of accounts m) + n
         by true e = rw (transferred_same (eqb-true d c e)) (omega arith)
         by false e = apart_abs l (eqb-false d c e) m (eqb m c) refl
-
--- what the machine computes in such a transfer
-module _ (d c n : ℕ) (accounts : List ℤ) (t : Transferable d c n accounts) (members : length accounts ≡ member_count) where
-  abbrev debit : ℤ
-  debit = read (read (account_of accounts d) -ℤ to_z w64 n)
-
-  debit_is : set accounts d debit ≡ less d c n accounts
-  debit_is = ap (λ (z : ℤ). set accounts d z) (minus_is (account_of accounts d) n (omega (arith, t.bounded d)))
-
-  abbrev due : ℤ
-  due = account_of (set accounts d debit) c
-
-  due_small : nat_abs due + n < 2 ^ 63
-  due_small = rw debit_is (omega (arith, less_abs d c n accounts (omega arith) c, t.bounded c))
-
-  -- the new account of the debtor fits
-  pub debit_fits : SFits w64 (read (account_of accounts d) -ℤ to_z w64 n)
-  debit_fits = minus_fits (account_of accounts d) n (omega (arith, t.bounded d))
-
-  -- the new account of the creditor fits
-  pub credit_fits : SFits w64 (read due +ℤ to_z w64 n)
-  credit_fits = plus_fits due n due_small
-
-  -- with both stored, the accounts are those of the definition
-  pub transfer_is : set (set accounts d debit) c (read (read due +ℤ to_z w64 n)) ≡ transferred d c n accounts
-  unfolding transferred credited debited
-  transfer_is =
-      ap (λ (z : ℤ). set (set accounts d debit) c z) (plus_is due n due_small) ∙ ap (moved c (pos n)) debit_is
 
 -- how a transfer changes each account: it adds the cents to the buyer's and takes them from the seller's
 pub transferred_credit : (seller buyer cents : ℕ) (accounts : List ℤ) → seller < length accounts → buyer < length accounts → (seller ≡ buyer → ⊥) → (m : ℕ) →

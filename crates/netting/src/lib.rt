@@ -2,15 +2,16 @@
 // collected in a month is shared.
 #![tactic(auto)]
 
-ghost use Rattle.std.specs.Prelude.{◌≡◌, ◌*◌, ◌≤◌, ◌<◌, ◌^◌, length, get_or, nat_abs};
+ghost use Rattle.std.specs.Prelude.{◌≡◌, ◌*◌, ◌≤◌, ◌<◌, ◌^◌, length, get_or, sum_by};
 ghost use Rattle.basics.specs.Lists.{sum};
 ghost use Rattle.amounts.specs.Quotients.{divided};
 ghost use Rattle.netting.specs.Accounts.{claim, owed, claims, transferred};
 ghost use Rattle.netting.specs.Accounts.{member_count, most_account, Bounded, Transferable, Shareable};
 ghost use Rattle.netting.specs.Shares.{comes_before, rank, shares};
-ghost use Rattle.netting.specs.Portions.{Dividable, by_member, portions, cent_of, share_of};
+ghost use Rattle.netting.specs.Portions.{Dividable, parts, floor_of, remainder_of, portions, cent_of, share_of};
 
 use amounts::Divided;
+use std::array;
 
 // How many members there are; `member_count` in specs/.
 pub const MEMBER_COUNT: usize = 32;
@@ -18,33 +19,26 @@ pub const MEMBER_COUNT: usize = 32;
 // The highest number of a member; `last_member` in specs/.
 pub const LAST_MEMBER: u64 = MEMBER_COUNT as u64 - 1;
 
-// What the code computes before any share: each member's share rounded down, each remainder, and the cents left.
-#[derive(Clone, Copy)]
+// What the code computes before any share: for each member the quotient, which is its share rounded down, and the
+// remainder; and the cents left.
+#[derive(Drop)]
 struct Portions {
-    floors: [u64; MEMBER_COUNT],
-    remainders: [u64; MEMBER_COUNT],
+    parts: [Divided; MEMBER_COUNT],
     left: u64,
 }
 
 // Returns what an account claims.
 pub fn claim_of(account: i64) -> u64
-    requires { nat_abs account ≤ most_account }
     ensures { result ≡ claim account }
 {
-    if 0 < account { account as u64 } else { 0 }
+    account.max(0).unsigned_abs()
 }
 
 // Returns what an account owes.
 pub fn owed_by(account: i64) -> u64
-    requires { nat_abs account ≤ most_account }
     ensures { result ≡ owed account }
 {
-    if account < 0 {
-        let size = 0 - account;
-        size as u64
-    } else {
-        0
-    }
+    account.min(0).unsigned_abs()
 }
 
 // Moves cents from the account of one member to that of another. It reads the creditor's account after it has stored
@@ -53,130 +47,90 @@ pub fn transfer(accounts: &mut [i64], debtor: usize, creditor: usize, cents: u64
     requires { (Transferable debtor creditor cents accounts.old) × (length accounts.old ≡ member_count) }
     ensures { accounts.new ≡ transferred debtor creditor cents accounts.old }
 {
-    let owing = accounts[debtor];
-    accounts[debtor] = owing - (cents as i64);
-    let due = accounts[creditor];
-    accounts[creditor] = due + (cents as i64);
+    accounts[debtor] -= cents as i64;
+    accounts[creditor] += cents as i64;
 }
 
-// Returns the claims of all members.
-fn claims_of(accounts: [i64; MEMBER_COUNT]) -> [u64; MEMBER_COUNT]
-    requires { Bounded accounts }
-    ensures { result ≡ claims accounts }
+// Returns the sum of some amounts.
+#[tactic(auto, using(crate::proofs::Library::sum_is))]
+pub fn sum_of(amounts: &[u64]) -> u64
+    requires { sum amounts.now < 2 ^ 64 }
+    ensures { result ≡ sum amounts.now }
 {
-    let mut claims = [0u64; MEMBER_COUNT];
-    let mut m = 0;
-    while m < MEMBER_COUNT {
-        let account = accounts[m];
-        claims[m] = claim_of(account);
-        m += 1;
-    }
-    claims
+    amounts.iter().sum()
 }
 
-// Returns the sum of the amounts of all members.
-pub fn sum_of(amounts: [u64; MEMBER_COUNT]) -> u64
-    requires { sum amounts < 2 ^ 64 }
-    ensures { result ≡ sum amounts }
+// Returns for each claim its share rounded down, and the remainder. Both are 0 where nobody claims.
+fn parts_of(collected: u64, claims: &[u64; MEMBER_COUNT]) -> [Divided; MEMBER_COUNT]
+    requires { Dividable collected claims.now }
+    ensures { result ≡ parts collected claims.now }
 {
-    let mut so_far: u64 = 0;
-    let mut m = 0;
-    while m < MEMBER_COUNT {
-        so_far += amounts[m];
-        m += 1;
-    }
-    so_far
+    let whole = sum_of(claims);
+    claims.map(|claim| amounts::product_divided(collected, claim, whole))
 }
 
-// Returns the quotient and the remainder for one claim. Both are 0 for a claim of 0; this covers the case that nobody
-// claims, where the whole is 0.
-fn portion_of(collected: u64, claim: u64, whole: u64) -> Divided
-    requires { (collected ≤ whole) × (claim ≤ whole) × (whole ≤ 2 ^ 48) }
-    ensures { result ≡ divided (collected * claim) whole }
+// Returns what all shares rounded down add up to.
+fn given_by(parts: &[Divided]) -> u64
+    requires { sum_by (λ d. d.quotient) parts.now < 2 ^ 64 }
+    ensures { result ≡ sum_by (λ d. d.quotient) parts.now }
 {
-    if claim == 0 {
-        return Divided {
-            quotient: 0,
-            remainder: 0,
-        };
-    }
-    amounts::product_divided(collected, claim, whole)
+    parts.iter().map(|part| part.quotient).sum()
 }
 
 // Returns the portions of all claims, and the cents that the rounding leaves. The shares rounded down never exceed what
 // was collected.
-fn portions_of(collected: u64, claims: [u64; MEMBER_COUNT]) -> Portions
-    requires { Dividable collected claims }
-    ensures { result ≡ portions collected claims }
+#[tactic(auto, using(crate::proofs::Steps::quotients_are, crate::proofs::Shared::floors_most), unfolding(crate::specs::Portions::portions, crate::specs::Shares::cents_left))]
+fn portions_of(collected: u64, claims: &[u64; MEMBER_COUNT]) -> Portions
+    requires { Dividable collected claims.now }
+    ensures { result ≡ portions collected claims.now }
 {
-    let whole = sum_of(claims);
-    let mut floors = [0u64; MEMBER_COUNT];
-    let mut remainders = [0u64; MEMBER_COUNT];
-    let mut m = 0;
-    while m < MEMBER_COUNT {
-        let portion = portion_of(collected, claims[m], whole);
-        floors[m] = portion.quotient;
-        remainders[m] = portion.remainder;
-        m += 1;
-    }
-    let left = collected - sum_of(floors);
-    Portions {
-        floors: floors,
-        remainders: remainders,
-        left: left,
-    }
+    let parts = parts_of(collected, claims);
+    let left = collected - given_by(&parts);
+    Portions { parts, left }
 }
 
 // Says whether member k comes before member m for a cent: the larger remainder comes first, and of two alike the lower
 // member.
-fn comes_before(remainders: [u64; MEMBER_COUNT], k: usize, m: usize) -> bool
+#[tactic(auto, unfolding(crate::specs::Shares::comes_before))]
+fn comes_before(parts: &[Divided; MEMBER_COUNT], k: usize, m: usize) -> bool
     requires { (k < member_count) × (m < member_count) }
-    ensures { result ≡ comes_before (by_member remainders) k m }
+    ensures { result ≡ comes_before (remainder_of parts.now) k m }
 {
-    let first = remainders[k];
-    let second = remainders[m];
+    let (first, second) = (parts[k].remainder, parts[m].remainder);
     second < first || second == first && k < m
 }
 
 // Returns how many members come before member m for a cent.
-fn rank_of(remainders: [u64; MEMBER_COUNT], m: usize) -> u64
+fn rank_of(parts: &[Divided; MEMBER_COUNT], m: usize) -> u64
     requires { m < member_count }
-    ensures { result ≡ rank (by_member remainders) m }
+    ensures { result ≡ rank (remainder_of parts.now) m }
 {
-    let mut ahead: u64 = 0;
-    let mut k = 0;
-    while k < MEMBER_COUNT {
-        if comes_before(remainders, k, m) {
-            ahead += 1;
-        }
-        k += 1;
-    }
-    ahead
+    let ahead = (0..MEMBER_COUNT).filter(|k| comes_before(parts, *k, m));
+    ahead.count() as u64
 }
 
 // Returns 1 if member m gets one of the cents left, and 0 if not. Where no cent is left, it computes no rank.
-fn cent_of(portions: Portions, m: usize) -> u64
+#[tactic(auto, unfolding(crate::specs::Portions::cent_of))]
+fn cent_of(portions: &Portions, m: usize) -> u64
     requires { m < member_count }
-    ensures { result ≡ cent_of portions m }
+    ensures { result ≡ cent_of portions.now m }
 {
-    let left = portions.left;
-    if left == 0 {
+    if portions.left == 0 {
         return 0;
     }
-    let remainders = portions.remainders;
-    if rank_of(remainders, m) < left { 1 } else { 0 }
+    u64::from(rank_of(&portions.parts, m) < portions.left)
 }
 
 // Returns what one member gets: 0 without a claim, else its share rounded down and perhaps a cent.
-fn share_of(claims: [u64; MEMBER_COUNT], portions: Portions, m: usize) -> u64
-    requires { (m < member_count) × (get_or portions.floors m 0 ≤ 2 ^ 48) }
-    ensures { result ≡ share_of claims portions m }
+#[tactic(auto, using(crate::proofs::Steps::cent_most), unfolding(crate::specs::Portions::share_of))]
+fn share_of(claim: u64, portions: &Portions, m: usize) -> u64
+    requires { (m < member_count) × (floor_of portions.now.parts m ≤ 2 ^ 48) }
+    ensures { result ≡ share_of claim portions.now m }
 {
-    if claims[m] == 0 {
+    if claim == 0 {
         return 0;
     }
-    let floors = portions.floors;
-    floors[m] + cent_of(portions, m)
+    portions.parts[m].quotient + cent_of(portions, m)
 }
 
 // Returns what each member gets of the sum collected in a month.
@@ -184,13 +138,7 @@ pub fn shares_of(accounts: [i64; MEMBER_COUNT], collected: u64) -> [u64; MEMBER_
     requires { Shareable accounts collected }
     ensures { result ≡ shares collected (claims accounts) }
 {
-    let claims = claims_of(accounts);
-    let portions = portions_of(collected, claims);
-    let mut payouts = [0u64; MEMBER_COUNT];
-    let mut m = 0;
-    while m < MEMBER_COUNT {
-        payouts[m] = share_of(claims, portions, m);
-        m += 1;
-    }
-    payouts
+    let claims = accounts.map(claim_of);
+    let portions = portions_of(collected, &claims);
+    array::from_fn(|m| share_of(claims[m], &portions, m))
 }

@@ -1,18 +1,17 @@
 -- Laws on the loop of a buy-in. One offer after another gives, and what it gives is put after what the others gave.
-use Prim.Native.Nat.{ℕ, suc, ◌+◌, ◌-◌, ◌≤◌, ◌<◌, min}
+use Prim.Native.Nat.{ℕ, ◌+◌, ◌-◌, ◌≤◌, ◌<◌, min}
 use native.Mathlib.Omega.{arith}
-use native.Mathlib.Numerals.{add-one}
-use native.Mathlib.Nat.{le_antisymm, sub-zero}
+use native.Mathlib.Nat.{sub-zero}
 use mathlib.Core.Path.{◌≡◌, refl, sym, ap, ◌∙◌}
 use mathlib.Core.Bool.{Bool, true, false}
 use mathlib.Core.List.{List, [], ◌∷◌, ◌++◌, append_assoc, append-nil}
 use lib.Dec.{eqb}
-use lib.ListN.{length, get_or, set, take, replicate, length-append}
-use lib.Seq.{slice, slice-cons, slice_empty}
+use lib.ListN.{length, get_or, set, drop, replicate, length-append, drop_of_length-le}
 use borrow.Author.Tests.{eq-eqb, ne_eqb}
 use Rattle.basics.specs.Choice.{pick}
 use Rattle.basics.specs.Lists.{padded}
 use Rattle.basics.proofs.Cases.{pick_case}
+use Rattle.basics.proofs.Fronts.{drop_more}
 use Rattle.basics.proofs.Places.{padded_more}
 use Rattle.offers.specs.declared.Offer.{Offer}
 use Rattle.offers.specs.declared.Given.{Given}
@@ -32,15 +31,13 @@ gives_within x i left q e =
     (λ z. omega arith)
     (λ z. omega arith))
 
--- After k of n offers, what they gave fills the first places. With what the others will give, it is what all offers
--- give.
-pub record Passed (i left : ℕ) (rows : List Offer) (n : ℕ) (bought : List Given) (count rest k : ℕ) : Type 0 where
+-- After k offers, what they gave fills the first places. With what the others will give, it is what all offers give.
+pub record Passed (i left : ℕ) (xs : List Offer) (bought : List Given) (count rest k : ℕ) : Type 0 where
   pub so_far : List Given
-  pub within : k ≤ n
   pub few : length so_far ≤ k
   pub places : bought ≡ padded most_offers nothing_given so_far
   pub filled : count ≡ length so_far
-  pub made : so_far ++ given i rest (slice k n rows) ≡ given i left (take n rows)
+  pub made : so_far ++ given i rest (drop k xs) ≡ given i left xs
 
 -- the first offer gives, and then the others give from what it leaves
 given_first : (i left : ℕ) (x : Offer) (xs : List Offer)
@@ -66,43 +63,33 @@ given_none : (i left : ℕ) → given i left [] ≡ []
 unfolding given given_by offers_for
 given_none i left = refl
 
-module _ (i left : ℕ) (rows : List Offer) (n : ℕ) where
+module _ (i left : ℕ) (xs : List Offer) where
   -- before the first offer
-  pub passed_none : Passed i left rows n (replicate most_offers nothing_given) 0 left 0
-  passed_none = record {
-    so_far = [];
-    within = omega arith;
-    few = omega arith;
-    places = refl;
-    filled = refl;
-    made = refl;
-  }
+  pub passed_none : Passed i left xs (replicate most_offers nothing_given) 0 left 0
+  passed_none = record { so_far = []; few = omega arith; places = refl; filled = refl; made = refl }
 
   -- the same after a branch, where each value is known by an equation
   pub passed_same : {bought bought' : List Given} {count count' rest rest' k : ℕ}
       → bought' ≡ bought → count' ≡ count → rest' ≡ rest
-      → Passed i left rows n bought count rest k → Passed i left rows n bought' count' rest' k
+      → Passed i left xs bought count rest k → Passed i left xs bought' count' rest' k
   passed_same b e r p = rw (b, e, r) p
 
-  module _ (bought : List Given) (count rest k : ℕ) (p : Passed i left rows n bought count rest k) where
+  module _ (bought : List Given) (count rest k : ℕ) (p : Passed i left xs bought count rest k) where
     -- the turn of the offer x, which gives q
-    module _ (room : n ≤ most_offers) (size : length rows ≡ most_offers) (h : k < n)
-        (x : Offer) (ex : x ≡ get_or rows k no_offer) (q : ℕ) (eq : q ≡ quantity_from x i rest) where
-      next : given i rest (slice k n rows) ≡ with_given x q (given i (rest - q) (slice (k + 1) n rows))
+    module _ (room : length xs ≤ most_offers) (h : k < length xs)
+        (x : Offer) (ex : x ≡ get_or xs k no_offer) (q : ℕ) (eq : q ≡ quantity_from x i rest) where
+      next : given i rest (drop k xs) ≡ with_given x q (given i (rest - q) (drop (k + 1) xs))
       next =
-          rw (eq, ex, add-one)
-          (ap (given i rest) (slice-cons k n rows no_offer h (omega arith))
-          ∙ given_first i rest (get_or rows k no_offer) (slice (suc k) n rows))
+          rw (eq, ex) (ap (given i rest) (drop_more xs k no_offer h) ∙ given_first i rest (get_or xs k no_offer) (drop (k + 1) xs))
 
       -- the case that it gives something
       pub passed_gives : 0 < q
-          → Passed i left rows n (set bought count (record { offer = x; quantity = q })) (count + 1) (rest - q) (k + 1)
+          → Passed i left xs (set bought count (record { offer = x; quantity = q })) (count + 1) (rest - q) (k + 1)
       passed_gives z =
           let g : Given = record { offer = x; quantity = q } in
-          let later : List Given = given i (rest - q) (slice (k + 1) n rows) in
+          let later : List Given = given i (rest - q) (drop (k + 1) xs) in
           record {
             so_far = p.so_far ++ g ∷ [];
-            within = omega arith;
             few = omega (arith, p.few, length-append p.so_far (g ∷ []));
             places =
                 rw (p.places, p.filled) (padded_more most_offers nothing_given g p.so_far (omega (arith, p.few)));
@@ -111,15 +98,14 @@ module _ (i left : ℕ) (rows : List Offer) (n : ℕ) where
           }
 
       -- the case that it gives nothing
-      pub passed_over : q ≤ 0 → Passed i left rows n bought count rest (k + 1)
+      pub passed_over : q ≤ 0 → Passed i left xs bought count rest (k + 1)
       passed_over z =
-          let same : given i rest (slice (k + 1) n rows) ≡ given i rest (slice k n rows) =
-          ap (λ (j : ℕ). given i j (slice (k + 1) n rows)) (omega arith)
-          ∙ sym (with_none x q (given i (rest - q) (slice (k + 1) n rows)) z)
+          let same : given i rest (drop (k + 1) xs) ≡ given i rest (drop k xs) =
+          ap (λ (j : ℕ). given i j (drop (k + 1) xs)) (omega arith)
+          ∙ sym (with_none x q (given i (rest - q) (drop (k + 1) xs)) z)
           ∙ sym next in
           record {
             so_far = p.so_far;
-            within = omega arith;
             few = omega (arith, p.few);
             places = p.places;
             filled = p.filled;
@@ -127,10 +113,8 @@ module _ (i left : ℕ) (rows : List Offer) (n : ℕ) where
           }
 
     -- after the last offer
-    pub passed_all : n ≤ k
-        → ◌≡◌ {A = BuyIn} (record { given = bought; count = count }) (bought_with (given i left (take n rows)))
+    pub passed_all : length xs ≤ k
+        → ◌≡◌ {A = BuyIn} (record { given = bought; count = count }) (bought_with (given i left xs))
     passed_all h =
-        let e : k ≡ n = le_antisymm p.within h in
-        let all : p.so_far ≡ given i left (take n rows) =
-        rw (e, slice_empty, given_none, append-nil) at p.made in
+        let all : p.so_far ≡ given i left xs = rw (drop_of_length-le xs {i = k} h, given_none, append-nil) at p.made in
         rw (p.places, p.filled, all)

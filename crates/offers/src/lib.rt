@@ -1,7 +1,8 @@
 // The day's offers, which are kept in the order of the auction, and the pass of a buy-in over them.
 #![tactic(auto)]
 
-ghost use Rattle.std.specs.Prelude.{◌≡◌, ◌||◌, ◌≤◌, ◌<◌, min, eqb};
+ghost use Rattle.std.specs.Prelude.{◌≡◌, ◌≤◌, ◌<◌, min, eqb};
+ghost use Rattle.std.specs.List.{position_or_len};
 ghost use Rattle.basics.specs.Choice.{pick};
 ghost use Rattle.offers.specs.Rank.{overtakes};
 ghost use Rattle.offers.specs.Held.{most_offers, no_offers, listed_offers, with_offer};
@@ -20,7 +21,8 @@ pub struct Offer {
     pub price: u32,
 }
 
-// The offers of today, in the order of the auction. They are the first count rows.
+// The offers of today, in the order of the auction. They are the first count rows. It is a plain list with a count,
+// since the definitions build it and the theorem compares it, and since a heap could run out, which no refusal names.
 #[derive(Clone, Copy)]
 pub struct Offers {
     pub rows: [Offer; MOST_OFFERS],
@@ -34,7 +36,8 @@ pub struct Given {
     pub quantity: u32,
 }
 
-// What the offers for one obligation give, in the order of the auction. It is in the first count places.
+// What the offers for one obligation give, in the order of the auction. It is in the first count places, for the same
+// reason as the offers of today.
 #[derive(Clone, Copy)]
 pub struct BuyIn {
     pub given: [Given; MOST_OFFERS],
@@ -57,18 +60,11 @@ const NOTHING_GIVEN: Given = Given {
 
 // Says whether a later offer goes ahead of an earlier one: it does at a lower price only. At the same price the earlier
 // one stays ahead, however large the later one is.
+#[tactic(auto, unfolding(crate::specs::Rank::overtakes))]
 fn goes_ahead(later: Offer, earlier: Offer) -> bool
     ensures { result ≡ overtakes later earlier }
 {
     later.price < earlier.price
-}
-
-// Says whether a row makes way for the offer that is carried along the rows. Once one row has made way, every row
-// after it does.
-fn makes_way(moved: bool, carried: Offer, row: Offer) -> bool
-    ensures { result ≡ (moved || overtakes carried row) }
-{
-    moved || goes_ahead(carried, row)
 }
 
 // Returns the quantity that an offer gives to an obligation: the smaller of its own quantity and what is left, and 0 if
@@ -77,7 +73,7 @@ fn quantity_from(x: Offer, obligation: u64, left: u64) -> u32
     ensures { result ≡ pick (eqb x.obligation obligation) (min x.quantity left) 0 }
 {
     if x.obligation as u64 == obligation {
-        return basics::smaller(x.quantity as u64, left) as u32;
+        return left.min(x.quantity as u64) as u32;
     }
     0
 }
@@ -93,57 +89,54 @@ impl Offers {
         }
     }
 
-    // Adds an offer ahead of the first one that it overtakes, or after all of them if it overtakes none. The new offer
-    // is carried along the rows to its place. From there on, each row takes the offer that was ahead of it.
-    pub fn insert(self, o: Offer) -> Offers
-        requires { self.count < most_offers }
-        ensures { result ≡ with_offer self o }
+    // The offers that are held, in the order of the auction.
+    fn listed(&self) -> &[Offer]
+        requires { self.now.count ≤ most_offers }
+        ensures { result.now ≡ listed_offers self.now }
     {
-        let mut rows = self.rows;
-        let n = self.count;
-        let mut carried = o;
-        let mut moved = false;
-        let mut k = 0;
-        while k < n {
-            let row = rows[k];
-            if makes_way(moved, carried, row) {
-                rows[k] = carried;
-                carried = row;
-                moved = true;
-            }
-            k += 1;
-        }
-        rows[n] = carried;
-        Offers {
-            rows: rows,
-            count: n + 1,
-        }
+        &self.rows[..self.count]
+    }
+
+    // The place of a new offer: that of the first offer that it overtakes, or the first free row if it overtakes none.
+    fn place_of(&self, o: Offer) -> usize
+        requires { self.now.count ≤ most_offers }
+        ensures { result ≡ position_or_len (overtakes o) (listed_offers self.now) }
+    {
+        let found = self.listed().iter().position(|row| goes_ahead(o, *row));
+        found.unwrap_or(self.count)
+    }
+
+    // Adds an offer ahead of the first one that it overtakes, or after all of them if it overtakes none. Each offer from
+    // there on moves by one row.
+    pub fn insert(&mut self, o: Offer)
+        requires { self.old.count < most_offers }
+        ensures { self.new ≡ with_offer self.old o }
+    {
+        let at = self.place_of(o);
+        self.rows.copy_within(at..self.count, at + 1);
+        self.rows[at] = o;
+        self.count += 1;
     }
 
     // Makes the buy-in of one obligation, of which the given quantity is left. It passes once over the offers, in the
     // order of the auction, and skips an offer that gives nothing.
-    pub fn buy_in(self, obligation: u64, left: u64) -> BuyIn
-        requires { self.count ≤ most_offers }
-        ensures { result ≡ bought_with (given obligation left (listed_offers self)) }
+    pub fn buy_in(&self, obligation: u64, left: u64) -> BuyIn
+        requires { self.now.count ≤ most_offers }
+        ensures { result ≡ bought_with (given obligation left (listed_offers self.now)) }
     {
-        let rows = self.rows;
-        let n = self.count;
         let mut bought = [NOTHING_GIVEN; MOST_OFFERS];
         let mut count = 0;
         let mut rest = left;
-        let mut k = 0;
-        while k < n {
-            let x = rows[k];
-            let q = quantity_from(x, obligation, rest);
+        for offer in self.listed() {
+            let q = quantity_from(*offer, obligation, rest);
             if 0 < q {
                 bought[count] = Given {
-                    offer: x,
+                    offer: *offer,
                     quantity: q,
                 };
                 count += 1;
                 rest -= q as u64;
             }
-            k += 1;
         }
         BuyIn {
             given: bought,

@@ -1,52 +1,28 @@
 -- What is collected: the amounts of the list, or what each member owes if the list is empty. No amount is above what
 -- its member owes, so the claims cover all of it.
-use Prim.Native.Nat.{ℕ, zero, suc, ◌+◌, ◌^◌, ◌≤◌, ◌<◌}
+use Prim.Native.Nat.{ℕ, zero, suc, ◌^◌, ◌≤◌, ◌<◌}
 use native.Mathlib.Omega.{arith}
-use native.Mathlib.Numerals.{add-one}
 use mathlib.Core.Path.{◌≡◌, refl, sym, ap, ◌∙◌}
 use mathlib.Core.Bool.{Bool, true, false, ◌||◌}
 use mathlib.Core.Logic.{◌⊎◌, inl, inr, ⊎_elim}
 use mathlib.Core.List.{List, [], ◌∷◌}
 use lib.Dec.{ltb, eqb}
 use lib.IntN.{ℤ, pos}
-use lib.ListN.{length, get_or, drop, length-map}
-use lib.Seq.{drop-cons, drop-length}
+use lib.ListN.{length, get_or, length-map}
 use borrow.Author.Tests.{ltb-false, le-ltb, eqb-true, not-false}
+use Rattle.std.specs.List.{list_any, zip}
 use Rattle.basics.specs.Lists.{sum}
 use Rattle.basics.proofs.Cases.{or_false}
 use Rattle.netting.specs.Accounts.{owed, claims, debts, balance, Bounded, Shareable}
 use Rattle.netting.proofs.Debts.{collected_covered, claims_small}
 use Rattle.payments.specs.Month.{bad_amounts, bad_lists, over_collected, amounts_paid}
 
--- ---- the test member by member
-over_next : (xs : List ℤ) (cs : List ℕ) (m : ℕ) → m < length xs → m < length cs →
-    over_collected (drop m xs) (drop m cs) ≡ (ltb (owed (get_or xs m (pos 0))) (get_or cs m 0) || over_collected (drop (m + 1) xs) (drop (m + 1) cs))
+-- ---- the test member by member, in the library's words
+pub over_any : (xs : List ℤ) (cs : List ℕ) → over_collected xs cs ≡ list_any (λ p. ltb (owed p.0) p.1) (zip xs cs)
 unfolding over_collected
-over_next xs cs m h k = rw (add-one m, drop-cons xs m (pos 0) h, drop-cons cs m 0 k)
-
--- the members from m on decide
-pub record Undecided (xs : List ℤ) (cs : List ℕ) (m : ℕ) : Type 0 where
-  pub within : m ≤ 32
-  pub rest : over_collected (drop m xs) (drop m cs) ≡ over_collected xs cs
-
-pub undecided_none : (xs : List ℤ) (cs : List ℕ) → Undecided xs cs 0
-undecided_none xs cs = record { within = omega arith; rest = refl }
-
-module _ (xs : List ℤ) (cs : List ℕ) (m : ℕ) (u : Undecided xs cs m) (sa : length xs ≡ 32) (sc : length cs ≡ 32) where
-  pub undecided_more : m < 32 → ltb (owed (get_or xs m (pos 0))) (get_or cs m 0) ≡ false → Undecided xs cs (m + 1)
-  undecided_more h e = record {
-    within = omega arith;
-    rest = sym (over_next xs cs m (omega arith) (omega arith) ∙ rw e) ∙ u.rest;
-  }
-
-  pub decided_over : m < 32 → ltb (owed (get_or xs m (pos 0))) (get_or cs m 0) ≡ true → over_collected xs cs ≡ true
-  decided_over h e = sym u.rest ∙ over_next xs cs m (omega arith) (omega arith) ∙ rw e
-
-  pub decided_within : 32 ≤ m → over_collected xs cs ≡ false
-  unfolding over_collected
-  decided_within h =
-      let all : m ≡ length xs = omega (arith, u.within, sa) in
-      sym u.rest ∙ rw (ap (λ (k : ℕ). drop k xs) all ∙ drop-length xs)
+over_any [] cs = refl
+over_any (x ∷ xs) [] = refl
+over_any (x ∷ xs) (c ∷ cs) = ap (λ t. ltb (owed x) c || t) (over_any xs cs)
 
 -- ---- what passes the test
 within_owed : (xs : List ℤ) (cs : List ℕ) → over_collected xs cs ≡ false → length cs ≤ length xs → (m : ℕ) → m < length cs → get_or cs m 0 ≤ owed (get_or xs m (pos 0))

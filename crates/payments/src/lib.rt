@@ -1,10 +1,12 @@
 // Month: what is collected from the members that owe, and paid out to those that claim.
 #![tactic(auto)]
 
-ghost use Rattle.std.specs.Prelude.{◌≡◌, ◌<◌, false, length, get_or, pos};
-ghost use Rattle.netting.specs.Accounts.{member_count, debts, Bounded, balance};
+ghost use Rattle.std.specs.Prelude.{◌≡◌, false, length, pos};
+ghost use Rattle.basics.specs.Reasons.{answer_of};
+ghost use Rattle.netting.specs.Accounts.{debts, Bounded, balance};
 ghost use Rattle.payments.specs.Month.{bad_amounts, bad_lists, over_collected, amounts_paid, month_answer_by, paid_out};
 
+use basics::Reason;
 use netting::MEMBER_COUNT;
 
 // Whether a list of this many collected amounts is neither empty nor one with an amount for each member.
@@ -21,86 +23,52 @@ fn are_bad_lists(collected: usize, places: usize) -> bool
     are_bad_amounts(collected) || places != MEMBER_COUNT
 }
 
-// Returns what a member paid: its amount in the list, or what it owes if the list is empty.
-fn amount_of(accounts: [i64; MEMBER_COUNT], list: &[u64], m: usize) -> u64
-    requires { (Bounded accounts) × (m < member_count) × (bad_amounts (length list.now) ≡ false) }
-    ensures value { result ≡ get_or (amounts_paid (debts accounts) list.now) m 0 }
+// Returns what each member paid: the amounts of the list, or what each owes if the list is empty.
+fn amounts_of(accounts: &[i64; MEMBER_COUNT], list: &[u64]) -> [u64; MEMBER_COUNT]
+    requires { bad_amounts (length list.now) ≡ false }
+    ensures value { result ≡ amounts_paid (debts accounts.now) list.now }
     ensures list_stays { list.exit.now ≡ list.entry.now }
 {
-    if list.len() == 0 {
-        let account = accounts[m];
-        return netting::owed_by(account);
+    if list.is_empty() {
+        return accounts.map(netting::owed_by);
     }
-    list[m]
-}
-
-// Returns what each member paid.
-fn amounts_of(accounts: [i64; MEMBER_COUNT], list: &[u64]) -> [u64; MEMBER_COUNT]
-    requires { (Bounded accounts) × (bad_amounts (length list.now) ≡ false) }
-    ensures { result ≡ amounts_paid (debts accounts) list.now }
-{
-    let mut amounts = [0u64; MEMBER_COUNT];
-    let mut m = 0;
-    while m < MEMBER_COUNT {
-        amounts[m] = amount_of(accounts, list, m);
-        m += 1;
-    }
+    let mut amounts = [0; MEMBER_COUNT];
+    amounts.copy_from_slice(list);
     amounts
 }
 
-// Whether an amount is above what its member owes.
-fn is_over(accounts: [i64; MEMBER_COUNT], collected: [u64; MEMBER_COUNT]) -> bool
-    requires { Bounded accounts }
-    ensures { result ≡ over_collected accounts collected }
+// Whether an amount of the list is above what its member owes.
+fn is_over(accounts: &[i64; MEMBER_COUNT], list: &[u64]) -> bool
+    ensures { result ≡ over_collected accounts.now list.now }
 {
-    let mut m = 0;
-    while m < MEMBER_COUNT {
-        let account = accounts[m];
-        if netting::owed_by(account) < collected[m] {
-            return true;
-        }
-        m += 1;
-    }
-    false
+    let mut paid = accounts.iter().zip(list);
+    paid.any(|(account, amount)| netting::owed_by(*account) < *amount)
 }
 
-// Writes the shares into the places for payouts.
-fn pay(shares: [u64; MEMBER_COUNT], places: &mut [u64])
-    requires { length places.old ≡ member_count }
-    ensures { places.new ≡ shares }
-{
-    let mut m = 0;
-    while m < MEMBER_COUNT {
-        places[m] = shares[m];
-        m += 1;
-    }
-}
-
-// Collects and pays out, or refuses, and returns the answer number. `since` says whether a Close was accepted since
-// Open or since the last accepted Month. If the list of collected amounts is empty, each member paid what it owes.
+// Collects and pays out, or refuses. `since` says whether a Close was accepted since Open or since the last accepted
+// Month. If the list of collected amounts is empty, each member paid what it owes.
+#[tactic(auto, using(crate::proofs::Collected::collected_fits, crate::proofs::Collected::collected_shareable), unfolding(crate::specs::Month::month_refusals, crate::specs::Month::paid_out, basics::specs::Refusals::answer))]
 pub fn settle_month(
-    accounts: [i64; MEMBER_COUNT],
+    accounts: &[i64; MEMBER_COUNT],
     since: bool,
     collected: &[u64],
     places: &mut [u64],
-) -> u64
-    requires { (Bounded accounts) × (balance accounts ≡ pos 0) }
-    ensures value { result ≡ month_answer_by accounts since collected.now (length places.old) }
-    ensures places_after { places.new ≡ paid_out accounts since collected.now places.old }
+) -> Result<(), Reason>
+    requires { (Bounded accounts.now) × (balance accounts.now ≡ pos 0) }
+    ensures value { answer_of result ≡ month_answer_by accounts.now since collected.now (length places.old) }
+    ensures places_after { places.new ≡ paid_out accounts.now since collected.now places.old }
     ensures collected_stays { collected.exit.now ≡ collected.entry.now }
 {
     if are_bad_lists(collected.len(), places.len()) {
-        return 5;
+        return Err(Reason::BadLength);
     }
-    let amounts = amounts_of(accounts, collected);
-    if is_over(accounts, amounts) {
-        return 19;
+    if is_over(accounts, collected) {
+        return Err(Reason::OverCollected);
     }
     if !since {
-        return 21;
+        return Err(Reason::NoCloseSince);
     }
-    let total = netting::sum_of(amounts);
-    let shares = netting::shares_of(accounts, total);
-    pay(shares, places);
-    0
+    let total = netting::sum_of(&amounts_of(accounts, collected));
+    places.copy_from_slice(&netting::shares_of(*accounts, total));
+    Ok(())
 }

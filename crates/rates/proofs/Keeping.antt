@@ -13,8 +13,8 @@ use Rattle.calendar.specs.declared.Day.{Day}
 use Rattle.amounts.specs.Amounts.{most_rate}
 use Rattle.rates.specs.declared.RateRow.{RateRow}
 use Rattle.rates.specs.declared.Rates.{Rates}
-use Rattle.rates.specs.declared.InForce.{InForce}
-use Rattle.rates.specs.declared.InForce.TheVariants.{Since, Unset}
+use Rattle.std.specs.Prelude.{Option}
+use Rattle.std.specs.Prelude.{Some, None}
 use Rattle.rates.specs.Rows.{most_rows, start_of, holds, with_row, place_of, no_row, no_rates, listed_rates, with_rate}
 use Rattle.rates.specs.Force.{has_started, in_force, is_unset, rate_of, ValidRates}
 use Rattle.rates.proofs.Placing.{held_place, new_place, held_length, new_length, every_with, apart_with, listed_length, listed_with, size_with}
@@ -52,9 +52,9 @@ unstarted_few t s v none = by (below_or_not s.count most_rows)
 pub force_most : (t : Day) (s : Rates) → ValidRates t s → rate_of (in_force t (listed_rates s)) ≤ most_rate
 force_most t s v = by (in_force t (listed_rates s)) refl
   where
-    by : (f : InForce) → in_force t (listed_rates s) ≡ f → rate_of f ≤ most_rate
-    by Unset e = omega arith
-    by (Since r) e =
+    by : (f : Option RateRow) → in_force t (listed_rates s) ≡ f → rate_of f ≤ most_rate
+    by None e = omega arith
+    by (Some r) e =
         let g = in_force_greatest t (listed_rates s) r e in
         subst (λ (x : RateRow). x.rate ≤ most_rate) g.row (every_at {P = λ x. x.rate ≤ most_rate} v.rates_most g.index no_row g.within)
 

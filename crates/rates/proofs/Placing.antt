@@ -5,37 +5,18 @@ use native.Mathlib.Numerals.{add-one}
 use mathlib.Core.Path.{◌≡◌, refl, sym, ap, ◌∙◌}
 use mathlib.Core.Bool.{Bool, true, false, ◌||◌}
 use mathlib.Core.List.{List, [], ◌∷◌, ◌++◌}
-use lib.Dec.{ltb, eqb}
-use lib.ListN.{length, get_or, set, take, drop, length-set, drop_of_length-le, take-append-drop}
-use lib.Seq.{take_at, get_or-take, length-take-le}
-use borrow.Author.Tests.{lt-ltb, le-ltb, eqb-true, eqb-false, eq-eqb, ne_eqb}
+use lib.Dec.{eqb}
+use lib.ListN.{length, set, take, drop, length-set, take-append-drop}
+use lib.Seq.{take_at, length-take-le}
+use borrow.Author.Tests.{eqb-true, eqb-false}
 use Rattle.basics.specs.Choice.{pick}
 use Rattle.basics.specs.Lists.{Every, Sorted, at_front}
 use Rattle.basics.proofs.Cases.{never}
 use Rattle.basics.proofs.Everywhere.{every_map}
-use Rattle.basics.proofs.Fronts.{drop_more}
 use Rattle.calendar.specs.declared.Day.{Day}
 use Rattle.rates.specs.declared.RateRow.{RateRow}
 use Rattle.rates.specs.declared.Rates.{Rates}
-use Rattle.rates.specs.Rows.{most_rows, start_of, holds, with_row, place_of, no_row, listed_rates, with_rate, Apart}
-
--- ---- the search for a place
-module _ (d : Day) (rows : List RateRow) (n : ℕ) (few : n ≤ length rows) where
-  -- the place in the rows from row i on
-  place_from : (i : ℕ) → i < n →
-      place_of d (drop i (take n rows)) ≡ pick (eqb (start_of (get_or rows i no_row)).0 d.0) 0 (place_of d (drop (i + 1) (take n rows)) + 1)
-  unfolding place_of
-  place_from i h = rw (drop_more (take n rows) i no_row (omega (arith, length-take-le n rows few)), get_or-take n rows i no_row h)
-
-  pub place_here : (i : ℕ) → i < n → (start_of (get_or rows i no_row)).0 ≡ d.0 → place_of d (drop i (take n rows)) ≡ 0
-  place_here i h e = rw (eq-eqb (start_of (get_or rows i no_row)).0 d.0 e) at (place_from i h)
-
-  pub place_further : (i : ℕ) → i < n → ((start_of (get_or rows i no_row)).0 ≡ d.0 → ⊥) → place_of d (drop i (take n rows)) ≡ place_of d (drop (i + 1) (take n rows)) + 1
-  place_further i h z = rw (ne_eqb (start_of (get_or rows i no_row)).0 d.0 z) at (place_from i h)
-
-  pub place_end : place_of d (drop n (take n rows)) ≡ 0
-  unfolding place_of
-  place_end = rw (drop_of_length-le (take n rows) {i = n} (omega (arith, length-take-le n rows few)))
+use Rattle.rates.specs.Rows.{most_rows, start_of, holds, with_row, place_of, listed_rates, with_rate, Apart}
 
 -- ---- a starting day is held if it has a place among the rows
 pub held_place : (d : Day) (xs : List RateRow) → holds d xs ≡ true → place_of d xs < length xs
@@ -62,13 +43,6 @@ place_most d xs = by (holds d xs) refl
     by : (t : Bool) → holds d xs ≡ t → place_of d xs ≤ length xs
     by true e = omega (arith, held_place d xs e)
     by false e = omega (arith, new_place d xs e)
-
-pub holds_by_place : (d : Day) (xs : List RateRow) → ltb (place_of d xs) (length xs) ≡ holds d xs
-holds_by_place d xs = by (holds d xs) refl
-  where
-    by : (t : Bool) → holds d xs ≡ t → ltb (place_of d xs) (length xs) ≡ t
-    by true e = lt-ltb (place_of d xs) (length xs) (held_place d xs e)
-    by false e = le-ltb (place_of d xs) (length xs) (omega (arith, new_place d xs e))
 
 -- ---- a further row
 -- a row for a starting day that is held uses no further place, and one for a new starting day uses one

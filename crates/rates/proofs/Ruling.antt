@@ -1,60 +1,33 @@
 -- Laws on the rate in force: which row it is, and that a row that has started stays started.
-use Prim.Native.Nat.{ℕ, zero, suc, ◌+◌, ◌-◌, ◌≤◌, ◌<◌}
+use Prim.Native.Nat.{ℕ, zero, suc, ◌≤◌, ◌<◌}
 use native.Mathlib.Omega.{arith}
 use mathlib.Core.Path.{◌≡◌, refl, sym, ap, subst, ◌∙◌}
 use mathlib.Core.Bool.{Bool, true, false}
 use mathlib.Core.Logic.{⊎_elim}
 use mathlib.Core.List.{List, [], ◌∷◌}
 use lib.Dec.{ltb, leb, eqb}
-use lib.ListN.{length, get_or, take, drop, length-take, drop_of_length-le}
-use lib.Seq.{get_or-take, length-take-le}
+use lib.ListN.{length, get_or}
 use borrow.Author.Tests.{leb-true, eqb-true, eqb-false, le-leb, lt-ltb, le-ltb}
 use Rattle.basics.specs.Choice.{pick}
 use Rattle.basics.specs.Lists.{Every}
 use Rattle.basics.proofs.Cases.{never, pick_case, below_or_not}
 use Rattle.basics.proofs.Everywhere.{every_at}
-use Rattle.basics.proofs.Fronts.{drop_more}
 use Rattle.calendar.specs.declared.Day.{Day}
 use Rattle.rates.specs.declared.RateRow.{RateRow}
-use Rattle.rates.specs.declared.InForce.{InForce}
-use Rattle.rates.specs.declared.InForce.TheVariants.{Since, Unset}
+use Rattle.std.specs.Prelude.{Option}
+use Rattle.std.specs.Prelude.{Some, None}
 use Rattle.rates.specs.Rows.{start_of, with_row, entered_rows, no_row}
 use Rattle.rates.specs.Force.{has_started, or_later, in_force, is_unset}
 
 -- a row, and what is in force without it
-abbrev taken : Day → RateRow → InForce → InForce
+abbrev taken : Day → RateRow → Option RateRow → Option RateRow
 taken t r f = pick (has_started t r) (or_later r f) f
 
--- ---- the search, from the last row to the first
-module _ (t : Day) (rows : List RateRow) (n : ℕ) (few : n ≤ length rows) where
-  pub force_none : Unset ≡ in_force t (drop n (take n rows))
-  unfolding in_force
-  force_none = rw (drop_of_length-le (take n rows) {i = n} (omega (arith, length-take n rows)))
-
-  -- row k, and what is in force among the rows after it
-  force_from : (k : ℕ) → k < n →
-      in_force t (drop k (take n rows)) ≡ taken t (get_or rows k no_row) (in_force t (drop (k + 1) (take n rows)))
-  unfolding in_force
-  force_from k h =
-      rw (drop_more (take n rows) k no_row (omega (arith, length-take-le n rows few)), get_or-take n rows k no_row h)
-
-  module _ (k : ℕ) (some : 0 < k) (below : k ≤ n) (found : InForce) (e : found ≡ in_force t (drop k (take n rows))) where
-    force_back : taken t (get_or rows (k - 1) no_row) found ≡ in_force t (drop (k - 1) (take n rows))
-    force_back =
-        let back : k - 1 + 1 ≡ k = omega (arith, some) in
-        sym (force_from (k - 1) (omega (arith, some, below)) ∙ ap (λ (j : ℕ). taken t (get_or rows (k - 1) no_row) (in_force t (drop j (take n rows)))) back ∙ ap (taken t (get_or rows (k - 1) no_row)) (sym e))
-
-    pub force_started : has_started t (get_or rows (k - 1) no_row) ≡ true → or_later (get_or rows (k - 1) no_row) found ≡ in_force t (drop (k - 1) (take n rows))
-    force_started q = rw q at force_back
-
-    pub force_waits : has_started t (get_or rows (k - 1) no_row) ≡ false → found ≡ in_force t (drop (k - 1) (take n rows))
-    force_waits q = rw q at force_back
-
 -- ---- whether a row has started
-pub later_set : (r : RateRow) (f : InForce) → is_unset (or_later r f) ≡ false
+pub later_set : (r : RateRow) (f : Option RateRow) → is_unset (or_later r f) ≡ false
 unfolding or_later
-later_set r Unset = refl
-later_set r (Since s) = pick_case (λ (f : InForce). is_unset f ≡ false) (ltb (start_of r).0 (start_of s).0) (Since s) (Since r) (λ e. refl) (λ e. refl)
+later_set r None = refl
+later_set r (Some s) = pick_case (λ (f : Option RateRow). is_unset f ≡ false) (ltb (start_of r).0 (start_of s).0) (Some s) (Some r) (λ e. refl) (λ e. refl)
 
 -- a row that has started makes one in force, and so does one among the others
 pub started_set : (t : Day) (r : RateRow) (rs : List RateRow) → has_started t r ≡ true → is_unset (in_force t (r ∷ rs)) ≡ false
@@ -63,7 +36,7 @@ started_set t r rs e = rw e (later_set r (in_force t rs))
 
 pub others_set : (t : Day) (r : RateRow) (rs : List RateRow) → is_unset (in_force t rs) ≡ false → is_unset (in_force t (r ∷ rs)) ≡ false
 unfolding in_force
-others_set t r rs e = pick_case (λ (f : InForce). is_unset f ≡ false) (has_started t r) _ _ (λ q. later_set r (in_force t rs)) (λ q. e)
+others_set t r rs e = pick_case (λ (f : Option RateRow). is_unset f ≡ false) (has_started t r) _ _ (λ q. later_set r (in_force t rs)) (λ q. e)
 
 -- F5, Rates: a row that has started stays started
 pub started_later : (t u : Day) (r : RateRow) → t.0 ≤ u.0 → has_started t r ≡ true → has_started u r ≡ true
@@ -81,11 +54,11 @@ set_later t u (r ∷ rs) h e = by (has_started t r) refl e (set_later t u rs h)
     by false q z f = others_set u r rs (f z)
 
 -- ---- the later of two rows
-pub or_below : (r s : RateRow) → (start_of r).0 < (start_of s).0 → or_later r (Since s) ≡ Since s
+pub or_below : (r s : RateRow) → (start_of r).0 < (start_of s).0 → or_later r (Some s) ≡ Some s
 unfolding or_later
 or_below r s h = rw (lt-ltb (start_of r).0 (start_of s).0 h)
 
-pub or_above : (r s : RateRow) → (start_of s).0 ≤ (start_of r).0 → or_later r (Since s) ≡ Since r
+pub or_above : (r s : RateRow) → (start_of s).0 ≤ (start_of r).0 → or_later r (Some s) ≡ Some r
 unfolding or_later
 or_above r s h = rw (le-ltb (start_of r).0 (start_of s).0 h)
 
@@ -96,16 +69,16 @@ unfolding has_started
 same_started t r x e = ap (λ (d : ℕ). leb d t.0) e
 
 -- a row that is superseded plays no part
-over_same : (r x : RateRow) (f : InForce) → (start_of r).0 ≡ (start_of x).0 → or_later x (or_later r f) ≡ or_later x f
+over_same : (r x : RateRow) (f : Option RateRow) → (start_of r).0 ≡ (start_of x).0 → or_later x (or_later r f) ≡ or_later x f
 unfolding or_later
-over_same r x Unset e = or_above x r (omega (arith, e))
-over_same r x (Since s) e =
+over_same r x None e = or_above x r (omega (arith, e))
+over_same r x (Some s) e =
     ⊎_elim
     (λ (h : (start_of r).0 < (start_of s).0). ap (or_later x) (or_below r s h))
     (λ (h : (start_of s).0 ≤ (start_of r).0). ap (or_later x) (or_above r s h) ∙ or_above x r (omega (arith, e)) ∙ sym (or_above x s (omega (arith, e))))
     (below_or_not (start_of r).0 (start_of s).0)
 
-superseded : (t : Day) (r x : RateRow) (f : InForce) → (start_of r).0 ≡ (start_of x).0 → taken t x (taken t r f) ≡ taken t x f
+superseded : (t : Day) (r x : RateRow) (f : Option RateRow) → (start_of r).0 ≡ (start_of x).0 → taken t x (taken t r f) ≡ taken t x f
 superseded t r x f e = by (has_started t x) (same_started t r x e)
   where
     by : (b : Bool) → has_started t r ≡ b → pick b (or_later x (taken t r f)) (taken t r f) ≡ pick b (or_later x f) f
@@ -113,17 +86,17 @@ superseded t r x f e = by (has_started t x) (same_started t r x e)
     by false q = rw q
 
 -- the order in which two rows with different starting days were entered plays no part
-either_later : (r x : RateRow) → ((start_of r).0 ≡ (start_of x).0 → ⊥) → or_later r (Since x) ≡ or_later x (Since r)
+either_later : (r x : RateRow) → ((start_of r).0 ≡ (start_of x).0 → ⊥) → or_later r (Some x) ≡ or_later x (Some r)
 either_later r x z =
     ⊎_elim
     (λ (h : (start_of r).0 < (start_of x).0). or_below r x h ∙ sym (or_above x r (omega (arith, h))))
     (λ (h : (start_of x).0 ≤ (start_of r).0). or_above r x h ∙ sym (or_below x r (omega (arith, h, z))))
     (below_or_not (start_of r).0 (start_of x).0)
 
-over_other : (r x : RateRow) (f : InForce) → ((start_of r).0 ≡ (start_of x).0 → ⊥) → or_later r (or_later x f) ≡ or_later x (or_later r f)
+over_other : (r x : RateRow) (f : Option RateRow) → ((start_of r).0 ≡ (start_of x).0 → ⊥) → or_later r (or_later x f) ≡ or_later x (or_later r f)
 unfolding or_later
-over_other r x Unset z = either_later r x z
-over_other r x (Since s) z =
+over_other r x None z = either_later r x z
+over_other r x (Some s) z =
     ⊎_elim
     (λ (h : (start_of r).0 < (start_of s).0).
     ⊎_elim
@@ -137,7 +110,7 @@ over_other r x (Since s) z =
     (below_or_not (start_of x).0 (start_of s).0))
     (below_or_not (start_of r).0 (start_of s).0)
 
-swapped : (t : Day) (r x : RateRow) (f : InForce) → ((start_of r).0 ≡ (start_of x).0 → ⊥) → taken t r (taken t x f) ≡ taken t x (taken t r f)
+swapped : (t : Day) (r x : RateRow) (f : Option RateRow) → ((start_of r).0 ≡ (start_of x).0 → ⊥) → taken t r (taken t x f) ≡ taken t x (taken t r f)
 swapped t r x f z = by (has_started t r) (has_started t x)
   where
     by : (b c : Bool) → pick b (or_later r (pick c (or_later x f) f)) (pick c (or_later x f) f) ≡ pick c (or_later x (pick b (or_later r f) f)) (pick b (or_later r f) f)
@@ -167,13 +140,13 @@ force_entered t (x ∷ xs) = force_with t x (entered_rows xs) ∙ ap (taken t x)
 
 -- ---- which row is in force
 -- F6, Rates: if no row is in force, none has started
-pub none_started : (t : Day) (rs : List RateRow) → in_force t rs ≡ Unset → Every (λ r. has_started t r ≡ false) rs
+pub none_started : (t : Day) (rs : List RateRow) → in_force t rs ≡ None → Every (λ r. has_started t r ≡ false) rs
 unfolding in_force
 none_started t [] e = Every.nobody
 none_started t (r ∷ rs) e = by (has_started t r) refl e (none_started t rs)
   where
-    by : (b : Bool) → has_started t r ≡ b → pick b (or_later r (in_force t rs)) (in_force t rs) ≡ Unset →
-        (in_force t rs ≡ Unset → Every (λ s. has_started t s ≡ false) rs) → Every (λ s. has_started t s ≡ false) (r ∷ rs)
+    by : (b : Bool) → has_started t r ≡ b → pick b (or_later r (in_force t rs)) (in_force t rs) ≡ None →
+        (in_force t rs ≡ None → Every (λ s. has_started t s ≡ false) rs) → Every (λ s. has_started t s ≡ false) (r ∷ rs)
     by true q z f = absurd (never (sym (later_set r (in_force t rs)) ∙ ap is_unset z))
     by false q z f = Every.also q (f z)
 
@@ -221,21 +194,21 @@ greatest_behind t x rs r f g = record {
     apart zero h e = omega (arith, e, f (same_started t x r e ∙ g.started))
     apart (suc j) h e = g.first j (omega (arith, h)) e
 
-pub in_force_greatest : (t : Day) (rs : List RateRow) (r : RateRow) → in_force t rs ≡ Since r → Greatest t rs r
+pub in_force_greatest : (t : Day) (rs : List RateRow) (r : RateRow) → in_force t rs ≡ Some r → Greatest t rs r
 unfolding in_force or_later
 in_force_greatest t [] r e = absurd (never (sym (ap is_unset e)))
 in_force_greatest t (x ∷ rs) r e = by (has_started t x) (in_force t rs) refl refl e (in_force_greatest t rs)
   where
-    since : {u v : RateRow} → Since u ≡ Since v → u ≡ v
+    since : {u v : RateRow} → Some u ≡ Some v → u ≡ v
     since q = cc
 
-    by : (b : Bool) (f : InForce) → has_started t x ≡ b → in_force t rs ≡ f → pick b (or_later x f) f ≡ Since r →
-        ((s : RateRow) → in_force t rs ≡ Since s → Greatest t rs s) → Greatest t (x ∷ rs) r
+    by : (b : Bool) (f : Option RateRow) → has_started t x ≡ b → in_force t rs ≡ f → pick b (or_later x f) f ≡ Some r →
+        ((s : RateRow) → in_force t rs ≡ Some s → Greatest t rs s) → Greatest t (x ∷ rs) r
     by false f q g z i = greatest_behind t x rs r (λ s. absurd (never (sym q ∙ s))) (i r (g ∙ z))
-    by true Unset q g z i =
+    by true None q g z i =
         subst (Greatest t (x ∷ rs)) (since z)
         (greatest_first t x rs q (λ j h s. absurd (never (sym (every_at {P = λ y. has_started t y ≡ false} (none_started t rs g) j no_row h) ∙ s))))
-    by true (Since s) q g z i =
+    by true (Some s) q g z i =
         ⊎_elim
         (λ (h : (start_of x).0 < (start_of s).0). subst (Greatest t (x ∷ rs)) (since (sym (or_below x s h) ∙ z)) (greatest_behind t x rs s (λ w. h) (i s g)))
         (λ (h : (start_of s).0 ≤ (start_of x).0).

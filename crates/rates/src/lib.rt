@@ -1,7 +1,7 @@
 // The rates of a book with their starting days, and which of them is in force on a day.
 #![tactic(auto)]
 
-ghost use Rattle.std.specs.Prelude.{◌≡◌, ◌≤◌, ◌<◌};
+ghost use Rattle.std.specs.Prelude.{◌≡◌, ◌≤◌, ◌<◌, eqb};
 ghost use Rattle.rates.specs.Rows.{most_rows, start_of, holds, place_of, no_rates, listed_rates, with_rate};
 ghost use Rattle.rates.specs.Force.{has_started, or_later, in_force, is_unset};
 
@@ -18,18 +18,14 @@ pub struct RateRow {
     pub rate: u16,
 }
 
-// The rates of a book. They are the first count rows, in the order in which their starting days were first entered.
+// The rates of a book. They are the first count rows, in the order in which their starting days were first entered. It
+// is a plain list with a count, since the definitions build it and the theorem compares it, and since a heap could run
+// out, which no refusal names. For the same reason it has no ghost field that keeps the count below 17: each definition
+// in specs/ that builds a book, as `no_rates` and `with_rate` do, would have to build that field and its proof too.
 #[derive(Clone, Copy)]
 pub struct Rates {
     pub rows: [RateRow; MOST_ROWS],
     pub count: usize,
-}
-
-// The row that is in force on a day, or that there is none.
-#[derive(Clone, Copy)]
-pub enum InForce {
-    Since(RateRow),
-    Unset,
 }
 
 // This fills a free row.
@@ -40,25 +36,27 @@ const NO_ROW: RateRow = RateRow {
 
 impl RateRow {
     // Whether the row has started by a day.
+    #[tactic(auto, unfolding(crate::specs::Force::has_started))]
     fn has_started(self, today: Day) -> bool
         ensures { result ≡ has_started today self }
     {
-        self.start.day().0 <= today.0
+        self.start.day() <= today
+    }
+
+    // Whether the row starts on a day.
+    fn starts_on(self, day: Day) -> bool
+        ensures { result ≡ eqb (start_of self).0 day.0 }
+    {
+        self.start.day() == day
     }
 
     // Of the row and what was found among others, the one that starts later; the row, if both start on one day.
-    fn or_later(self, found: InForce) -> InForce
+    #[tactic(auto, unfolding(crate::specs::Force::or_later))]
+    fn or_later(self, found: Option<RateRow>) -> Option<RateRow>
         ensures { result ≡ or_later self found }
     {
-        match found {
-            InForce::Unset => InForce::Since(self),
-            InForce::Since(other) => {
-                if self.start.day().0 < other.start.day().0 {
-                    return InForce::Since(other);
-                }
-                InForce::Since(self)
-            }
-        }
+        let later = found.filter(|other| self.start < other.start);
+        later.or(Some(self))
     }
 }
 
@@ -73,73 +71,61 @@ impl Rates {
         }
     }
 
-    // The row in force on a day. The rows are passed from the last to the first.
-    pub fn in_force(self, today: Day) -> InForce
-        requires { self.count ≤ most_rows }
-        ensures { result ≡ in_force today (listed_rates self) }
+    // The rows that are held.
+    fn listed(&self) -> &[RateRow]
+        requires { self.now.count ≤ most_rows }
+        ensures { result.now ≡ listed_rates self.now }
     {
-        let rows = self.rows;
-        let mut found = InForce::Unset;
-        let mut k = self.count;
-        while 0 < k {
-            k -= 1;
-            let row = rows[k];
-            if row.has_started(today) {
-                found = row.or_later(found);
-            }
-        }
-        found
+        &self.rows[..self.count]
+    }
+
+    // The row in force on a day, if there is one. The rows are passed from the last to the first.
+    pub fn in_force(&self, today: Day) -> Option<RateRow>
+        requires { self.now.count ≤ most_rows }
+        ensures { result ≡ in_force today (listed_rates self.now) }
+    {
+        let started = self
+            .listed()
+            .iter()
+            .rev()
+            .filter(|row| row.has_started(today));
+        started.fold(None, |found, row| row.or_later(found))
     }
 
     // Whether no row has started by a day.
-    pub fn none_started(self, today: Day) -> bool
-        requires { self.count ≤ most_rows }
-        ensures { result ≡ is_unset (in_force today (listed_rates self)) }
+    pub fn none_started(&self, today: Day) -> bool
+        requires { self.now.count ≤ most_rows }
+        ensures { result ≡ is_unset (in_force today (listed_rates self.now)) }
     {
-        match self.in_force(today) {
-            InForce::Since(_) => false,
-            InForce::Unset => true,
-        }
+        self.in_force(today).is_none()
     }
 
     // The place of the row with a starting day, or the first free place.
-    fn place_of(self, start: Day) -> usize
-        requires { self.count ≤ most_rows }
-        ensures { result ≡ place_of start (listed_rates self) }
+    fn place_of(&self, start: Day) -> usize
+        requires { self.now.count ≤ most_rows }
+        ensures { result ≡ place_of start (listed_rates self.now) }
     {
-        let rows = self.rows;
-        let count = self.count;
-        let mut i = 0;
-        while i < count {
-            let row = rows[i];
-            if row.start.day().0 == start.0 {
-                return i;
-            }
-            i += 1;
-        }
-        count
+        let found = self.listed().iter().position(|row| row.starts_on(start));
+        found.unwrap_or(self.count)
     }
 
     // Whether one of the rows has this starting day.
-    pub fn has_row(self, start: Day) -> bool
-        requires { self.count ≤ most_rows }
-        ensures { result ≡ holds start (listed_rates self) }
+    pub fn has_row(&self, start: Day) -> bool
+        requires { self.now.count ≤ most_rows }
+        ensures { result ≡ holds start (listed_rates self.now) }
     {
-        self.place_of(start) < self.count
+        self.listed().iter().any(|row| row.starts_on(start))
     }
 
     // Enters a row, in the place of the one with the same starting day or in the first free place.
-    pub fn enter(mut self, row: RateRow) -> Rates
-        requires { (self.count ≤ most_rows) × (place_of (start_of row) (listed_rates self) < most_rows) }
-        ensures { result ≡ with_rate row self }
+    pub fn enter(&mut self, row: RateRow)
+        requires { (self.old.count ≤ most_rows) × (place_of (start_of row) (listed_rates self.old) < most_rows) }
+        ensures { self.new ≡ with_rate row self.old }
     {
         let at = self.place_of(row.start.day());
-        let mut rows = self.rows;
-        rows[at] = row;
-        self.rows = rows;
+        self.rows[at] = row;
         if at == self.count {
             self.count = at + 1;
         }
-        self
     }
 }

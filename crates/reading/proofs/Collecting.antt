@@ -71,10 +71,6 @@ more_than places xs (Some ns) (Some n) h =
     few_not places (xs ++ n ∷ ns) (omega (arith, length-append xs (n ∷ ns)))
 
 module _ (words : List (List ℕ)) (places numbers : List ℕ) (count : ℕ) (c : Collected words places numbers count) where
-  -- the buffer has as many places as before
-  pub collected_length : length numbers ≡ length places
-  collected_length = ap length c.stand ∙ length-sets places 0 c.so_far
-
   -- the contract holds after the last word
   pub collected_last : drop count words ≡ [] → Outcome words places numbers (Some count)
   unfolding numbers_of numbers_ahead behind

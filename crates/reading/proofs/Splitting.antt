@@ -89,13 +89,6 @@ module _ (line : List ℕ) (end : ℕ) (ends : end ≡ length (first_word line))
   pub word_within : end ≤ length line
   word_within = omega (arith, up_most space line)
 
-  -- after any word but the last there is at least one byte more
-  pub word_behind : (end ≡ length line → ⊥) → end + 1 ≤ length line
-  word_behind more = apart (length line) word_within more
-    where
-      apart : (n : ℕ) → end ≤ n → (end ≡ n → ⊥) → end + 1 ≤ n
-      apart n a b = omega arith
-
 -- the place of the first space, or the length of a line without one, is where the first word ends
 pub word_at : (line : List ℕ) (r : Option ℕ)
     → r ≡ cond (ltb (position_or_len (λ b. eqb b space) line) (length line)) (Some (position_or_len (λ b. eqb b space) line)) None

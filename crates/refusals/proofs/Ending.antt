@@ -1,4 +1,5 @@
 -- The refusals of Close and of Again.
+use Rattle.std.specs.Prelude.{Option, Some, None}
 use Prim.Native.Nat.{ℕ, ◌≤◌, ◌<◌}
 use mathlib.Core.Path.{◌≡◌, refl, ap, ◌∙◌}
 use mathlib.Core.Bool.{Bool, true, false, not}
@@ -10,11 +11,8 @@ use Rattle.basics.specs.Refusals.{answer, outside}
 use Rattle.basics.proofs.Cases.{or_false}
 use Rattle.basics.proofs.Refusals.{pass, stop, passed, all_passed, refused_ahead, passed_ahead, ahead_passed, is_printed}
 use Rattle.calendar.specs.declared.Day.{Day}
-use Rattle.calendar.specs.declared.NextDay.{NextDay}
-use Rattle.calendar.specs.declared.NextDay.TheVariants.{At, Never}
 use Rattle.amounts.specs.Amounts.{most_close_price}
-use Rattle.rates.specs.declared.InForce.{InForce}
-use Rattle.rates.specs.declared.InForce.TheVariants.{Unset}
+use Rattle.rates.specs.declared.RateRow.{RateRow}
 use Rattle.rates.specs.Force.{is_unset}
 use Rattle.ledger.specs.Lines.{fewest_words}
 use Rattle.refusals.specs.Calls.{close_refusals_in, is_never, close_refusals, again_refusals}
@@ -43,7 +41,7 @@ module _ (price words : ℕ) where
         long = ltb-false words fewest_words p5.0;
       }
 
-  module _ (next : NextDay) (force : InForce) where
+  module _ (next : Option Day) (force : Option RateRow) where
     -- refused by the input, whatever the next clearing day and the rate in force are
     pub close_refused : (k : ℕ) → answer (close_refusals_in price words) ≡ k → (k ≡ 0 → ⊥) → answer (close_refusals price words next force) ≡ k
     unfolding close_refusals
@@ -51,15 +49,15 @@ module _ (price words : ℕ) where
 
     -- A Close that passes them is refused by 20 if there is no next clearing day. If there is one, it is refused by 26 if
     -- no rate is in force, and done if one is.
-    pub close_never : next ≡ Never → answer (close_refusals_in price words) ≡ 0 → answer (close_refusals price words next force) ≡ 20
+    pub close_never : next ≡ None → answer (close_refusals_in price words) ≡ 0 → answer (close_refusals price words next force) ≡ 20
     unfolding close_refusals
     close_never q e = passed_ahead (close_refusals_in price words) _ close_some e ∙ stop 20 _ (ap is_never q)
 
-    pub close_unset : (d : Day) → next ≡ At d → force ≡ Unset → answer (close_refusals_in price words) ≡ 0 → answer (close_refusals price words next force) ≡ 26
+    pub close_unset : (d : Day) → next ≡ Some d → force ≡ None → answer (close_refusals_in price words) ≡ 0 → answer (close_refusals price words next force) ≡ 26
     unfolding close_refusals
     close_unset d q f e = passed_ahead (close_refusals_in price words) _ close_some e ∙ pass 20 _ (ap is_never q) ∙ stop 26 [] (ap is_unset f)
 
-    pub close_at : (d : Day) → next ≡ At d → is_unset force ≡ false → answer (close_refusals_in price words) ≡ 0 → answer (close_refusals price words next force) ≡ 0
+    pub close_at : (d : Day) → next ≡ Some d → is_unset force ≡ false → answer (close_refusals_in price words) ≡ 0 → answer (close_refusals price words next force) ≡ 0
     unfolding close_refusals
     close_at d q f e = passed_ahead (close_refusals_in price words) _ close_some e ∙ pass 20 _ (ap is_never q) ∙ pass 26 [] f ∙ all_passed
 

@@ -1,18 +1,16 @@
 -- The refusals of Enter, Cancel, Deliver, Offer, Rate, Close and Again: by what the call is given, on the obligation
 -- that was fetched, by the rates of the book, and by the next clearing day. This file also has the outcome of a call
 -- that names an obligation, and the condition on the first day of an Open.
-use Rattle.std.specs.Prelude.{ℕ, ◌+◌, Bool, true, false, ◌||◌, ◌&&◌, not, List, [], ◌∷◌, ◌++◌, ltb, leb, eqb}
+use Rattle.std.specs.Prelude.{ℕ, ◌+◌, Bool, true, false, ◌||◌, ◌&&◌, not, List, [], ◌∷◌, ◌++◌, ltb, leb, eqb, Option, Some, None}
 use Rattle.basics.specs.Refusals.{Refusal, refuse, answer, outcome, outside}
 use Rattle.calendar.specs.declared.Day.{Day}
 use Rattle.calendar.specs.declared.ClosedDays.{ClosedDays}
-use Rattle.calendar.specs.declared.NextDay.{NextDay}
-use Rattle.calendar.specs.declared.NextDay.TheVariants.{At, Never}
 use Rattle.calendar.specs.Closed.{last_day, listed_days}
 use Rattle.calendar.specs.Days.{clearing}
 use Rattle.amounts.specs.Amounts.{most_quantity, most_amount, most_close_price, most_offer_price, most_rate, above_cap}
 use Rattle.offers.specs.Held.{most_offers}
 use Rattle.rates.specs.declared.Rates.{Rates}
-use Rattle.rates.specs.declared.InForce.{InForce}
+use Rattle.rates.specs.declared.RateRow.{RateRow}
 use Rattle.rates.specs.Rows.{most_rows, holds, listed_rates}
 use Rattle.rates.specs.Force.{in_force, is_unset}
 use Rattle.instructions.specs.declared.Leg.{Leg}
@@ -64,10 +62,14 @@ enter_refusals closed_days today legs new =
     ∷ refuse 12 (leb most_legs legs)
     ∷ []
 
--- ---- Cancel
+-- ---- Cancel, Account and Look
+-- A9, A15, A16 and R1, Refusals: the refusals of a call by the member that it names: all of Account and of Look
+abbrev pub member_refusals_in : ℕ → List Refusal
+member_refusals_in member = refuse 1 (no_member member) ∷ []
+
 -- A9 and R1, Refusals: the refusals of Cancel by what it is given
 abbrev pub cancel_refusals_in : ℕ → List Refusal
-cancel_refusals_in member = refuse 1 (no_member member) ∷ []
+cancel_refusals_in member = member_refusals_in member
 
 -- A9, R14 and R15, Refusals: the refusals of Cancel on the obligation that was found
 unfoldable pub cancel_refusals_of : Obligation → ℕ → List Refusal
@@ -98,12 +100,16 @@ offer_refusals_in supplier q price =
     ∷ refuse 3 (outside 1 most_offer_price price)
     ∷ []
 
+-- R16, Refusals: Offer is refused if the obligation, with its age, is not in its buy-in days
+abbrev pub not_in_buy_in : Terms → Day → ℕ → Obligation → Bool
+not_in_buy_in terms today age o = ltb today.0 o.deal.day.0 || not (in_buy_in terms.grace.0 (last_of terms o) age)
+
 -- A3, A11 and R15 to R18, Refusals: the refusals of Offer on the obligation that was found, with its age, in a book
 -- with this many offers
 unfoldable pub offer_refusals_of : Terms → Day → ℕ → ℕ → Obligation → ℕ → List Refusal
 offer_refusals_of terms today age offers o price =
     refuse 15 (eqb o.parts.outstanding 0)
-    ∷ refuse 16 (ltb today.0 o.deal.day.0 || not (in_buy_in terms.grace.0 (last_of terms o) age))
+    ∷ refuse 16 (not_in_buy_in terms today age o)
     ∷ refuse 17 (leb most_offers offers)
     ∷ refuse 18 (above_cap price o.stage.grace_price)
     ∷ []
@@ -140,13 +146,13 @@ unfoldable pub close_refusals_in : ℕ → ℕ → List Refusal
 close_refusals_in price words = refuse 3 (outside 1 most_close_price price) ∷ refuse 5 (is_short words) ∷ []
 
 -- R20, Refusals: whether there is no next clearing day
-abbrev pub is_never : NextDay → Bool
-is_never Never = true
-is_never (At next) = false
+abbrev pub is_never : Option Day → Bool
+is_never None = true
+is_never (Some next) = false
 
 -- A12, R20 and R26, Refusals: the refusals of Close, by the next clearing day after today and by the rate in force. If
 -- there is no such day, 20 holds, and if no rate is in force, 26 holds.
-unfoldable pub close_refusals : ℕ → ℕ → NextDay → InForce → List Refusal
+unfoldable pub close_refusals : ℕ → ℕ → Option Day → Option RateRow → List Refusal
 close_refusals price words next force = close_refusals_in price words ++ refuse 20 (is_never next) ∷ refuse 26 (is_unset force) ∷ []
 
 -- ---- Again

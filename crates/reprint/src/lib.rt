@@ -1,8 +1,8 @@
 // The lines of the latest Close. The book keeps them, so that Again can give them once more.
 #![tactic(auto)]
 
-ghost use Rattle.std.specs.Prelude.{◌≡◌, ◌+◌, ◌*◌, ◌≤◌, [], length};
-ghost use Rattle.ledger.specs.Lines.{words_in_line, fewest_words};
+ghost use Rattle.std.specs.Prelude.{◌≡◌, ◌+◌, ◌*◌, ◌≤◌, [], length, take};
+ghost use Rattle.ledger.specs.Lines.{words_in_line, fewest_words, most_lines};
 ghost use Rattle.closing.specs.Lines.{line_at, lines_read, written, SoundLine};
 ghost use Rattle.reprint.specs.Kept.{kept_line, line_of, kept_from, lines_kept, Keepable, ValidLast};
 
@@ -21,7 +21,8 @@ pub struct KeptLine {
     pub obligation: u16,
 }
 
-// The lines of the latest Close. They are the first count rows.
+// The lines of the latest Close. They are the first count rows. It is a plain list with a count, since the definitions
+// build it and the theorem compares it, and since a heap could run out, which no refusal names.
 #[derive(Clone, Copy)]
 pub struct LastClose {
     pub rows: [KeptLine; MOST_LINES],
@@ -38,7 +39,8 @@ const NO_LINE: KeptLine = KeptLine {
     obligation: 0,
 };
 
-// Reads the line with a number from a list of words.
+// Reads the line with a number from a list of words. It is no `From`, since it requires that the words fit the narrow
+// fields of the line.
 fn line_at(lines: &[u64], i: usize) -> KeptLine
     requires { (words_in_line * (i + 1) ≤ length lines.now) × (SoundLine (line_at lines.now i)) }
     ensures { result ≡ kept_line (line_at lines.now i) }
@@ -54,18 +56,18 @@ fn line_at(lines: &[u64], i: usize) -> KeptLine
     }
 }
 
-impl KeptLine {
+impl From<KeptLine> for Line {
+    ghost from_gives = { λ k l. l ≡ line_of k };
+
     // The line as the Close reported it.
-    fn line(self) -> Line
-        ensures { result ≡ line_of self }
-    {
+    fn from(kept: KeptLine) -> Line {
         Line {
-            kind: self.kind as u64,
-            obligation: self.obligation as u64,
-            quantity: self.quantity as u64,
-            cents: self.cents,
-            supplier: self.supplier as u64,
-            price: self.price as u64,
+            kind: kept.kind as u64,
+            obligation: kept.obligation as u64,
+            quantity: kept.quantity as u64,
+            cents: kept.cents,
+            supplier: kept.supplier as u64,
+            price: kept.price as u64,
         }
     }
 }
@@ -88,11 +90,8 @@ impl LastClose {
         ensures lines_stay { lines.exit.now ≡ lines.entry.now }
     {
         let mut rows = [NO_LINE; MOST_LINES];
-        let mut i = 0;
-        while i < count {
-            let row = line_at(lines, i);
-            rows[i] = row;
-            i += 1;
+        for i in 0..count {
+            rows[i] = line_at(lines, i);
         }
         LastClose {
             rows: rows,
@@ -100,18 +99,21 @@ impl LastClose {
         }
     }
 
-    // Writes the lines to the front of a list of words. Each word after them stays as it was.
-    pub fn write(self, lines: &mut [u64])
-        requires { (ValidLast self) × (fewest_words ≤ length lines.old) }
-        ensures { lines.new ≡ written (lines_kept self) lines.old }
+    // The lines that are kept.
+    fn listed(&self) -> &[KeptLine]
+        requires { self.now.count ≤ most_lines }
+        ensures { result.now ≡ take self.now.count self.now.rows }
     {
-        let rows = self.rows;
-        let kept = self.count;
-        let mut i = 0;
-        while i < kept {
-            let row = rows[i];
-            closing::put_line(lines, i, row.line());
-            i += 1;
+        &self.rows[..self.count]
+    }
+
+    // Writes the lines to the front of a list of words. Each word after them stays as it was.
+    pub fn write(&self, lines: &mut [u64])
+        requires { (ValidLast self.now) × (fewest_words ≤ length lines.old) }
+        ensures { lines.new ≡ written (lines_kept self.now) lines.old }
+    {
+        for (i, row) in self.listed().iter().enumerate() {
+            closing::put_line(lines, i, Line::from(*row));
         }
     }
 }

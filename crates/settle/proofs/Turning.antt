@@ -1,7 +1,7 @@
 -- What holds between two turns, and the proof that it still holds after one more turn.
-use Prim.Native.Nat.{ℕ, suc, ◌+◌, ◌≤◌, ◌<◌}
+use Prim.Native.Nat.{ℕ, suc, ◌≤◌}
 use native.Mathlib.Omega.{arith}
-use mathlib.Core.Path.{◌≡◌, refl, sym, subst, ap, ◌∙◌}
+use mathlib.Core.Path.{◌≡◌, sym, subst, ap, ◌∙◌}
 use mathlib.Core.Bool.{true}
 use mathlib.Core.List.{List, ◌∷◌}
 use lib.Dec.{leb}
@@ -22,28 +22,21 @@ use Rattle.journal.specs.Calls.{Call}
 use Rattle.journal.specs.Played.{outcome_of}
 use Rattle.settle.specs.declared.calls.Asked.{Asked}
 use Rattle.settle.specs.declared.calls.Played.{Played}
-use Rattle.settle.specs.declared.flow.Course.{Course}
-use Rattle.settle.specs.declared.flow.Course.TheVariants.{Going, Over, Failed}
+use Rattle.settle.specs.declared.flow.Course.TheVariants.{Going}
 use Rattle.settle.specs.declared.flow.Flow.{Flow}
 use Rattle.settle.specs.Asked.{asks, noted}
 use Rattle.settle.specs.Calls.{played_with, at_first, plain, asking_of, answer_by, words_by}
 use Rattle.settle.specs.Calls.Manner.{by_numbers}
 use Rattle.settle.specs.Flow.{FedOn, TakenOn, ToldOn}
-use Rattle.settle.specs.Turns.{Buffers, Gives, Held, begins, Reached, most_turns, turns_left}
+use Rattle.settle.specs.Turns.{Buffers, Gives, Held, begins, Reached, most_turns}
 use Rattle.settle.specs.Turns.Gives.{calling}
 use Rattle.settle.specs.Turns.Reached.{start, turn}
 use Rattle.settle.specs.Ending.{Plays}
 use Rattle.settle.proofs.Flows.{Kept}
 
--- What holds between two turns, with at most `left` more to come. A number of turns led there. With those to come they
--- are not more than the most turns of a run, and exactly as many while the run goes on. The book is valid, and all
--- places are within the buffers.
-pub record Stands (first : Held) (left : ℕ) (h : Held) : Type 0 where
-  pub turns : ℕ
+-- What holds after a number of turns. They lead there, the book is valid, and all places are within the buffers.
+pub record Stands (first : Held) (turns : ℕ) (h : Held) : Type 0 where
   pub reached : Reached first turns h
-  pub few : left + turns ≤ most_turns
-  pub clock : h.flow.course ≡ Going → left + turns ≡ most_turns
-  pub goes : 0 < left → h.flow.course ≡ Going
   pub valid : Valid h.book
   pub ordered : h.flow.feed.from ≤ h.flow.feed.to
   pub read : h.flow.feed.to ≤ length h.part
@@ -52,13 +45,9 @@ pub record Stands (first : Held) (left : ℕ) (h : Held) : Type 0 where
 
 -- this holds before the first turn
 pub standing : (part line numbers words : List ℕ) (places : ℕ) → Valid at_first.book → Buffers line numbers words places
-    → Stands (begins part line numbers words places) most_turns (begins part line numbers words places)
+    → Stands (begins part line numbers words places) 0 (begins part line numbers words places)
 standing part line numbers words places v b = record {
-  turns = 0;
   reached = start;
-  few = omega arith;
-  clock = λ e. omega arith;
-  goes = λ e. refl;
   valid = v;
   ordered = omega arith;
   read = omega arith;
@@ -67,13 +56,9 @@ standing part line numbers words places v b = record {
 }
 
 -- if no turn is to come, the journal was played
-pub stopped : {first h : Held} {left : ℕ} → left ≤ 0 → Stands first left h → Plays first h
-stopped none s = record {
-  turns = s.turns;
-  reached = s.reached;
-  few = omega (arith, s.few);
-  ends = λ e. omega (arith, s.clock e, none);
-}
+pub stopped : {first h : Held} {turns : ℕ} → turns ≤ most_turns → (h.flow.course ≡ Going → turns ≡ most_turns)
+    → Stands first turns h → Plays first h
+stopped {turns = turns} few ends s = record { turns = turns; reached = s.reached; few = few; ends = ends }
 
 -- a line does what `Gives` says, its book is valid, and its answer can be written
 pub record Given (b : Book) (a : Asked) (ns ws : List ℕ) (p : Played) (after : List ℕ) : Type 0 where
@@ -118,38 +103,12 @@ pub shown_given : {b : Book} {a : Asked} {ns ws : List ℕ} {p : Played} {after 
     → Tellable answer after → Given b a ns ws p after
 shown_given line gives is kept valid tells = given_by_lem _ _ _ line is kept gives valid tells (ap length kept)
 
--- after a turn fewer turns are left
-pub fewer : (course : Course) (turns left : ℕ) → 0 < turns → left ≡ turns_left course turns → left < turns
-fewer Going turns left h e = omega (arith, e)
-fewer Over turns left h e = omega (arith, e)
-fewer Failed turns left h e = omega (arith, e)
-
 -- the bytes that are taken lie within the buffers
 pub took_within : {f : Flow} {part line after : List ℕ} {t : Taken} → TakenOn f part line after t → Within f.feed (length line) t
 took_within {f} {part} {line} took = rw took.took (taken_within f.feed part (length line))
 
--- what holds of the number of turns after one more turn
-record Ticked (course : Course) (left turns : ℕ) : Type 0 where
-  few : turns_left course left + suc turns ≤ most_turns
-  clock : course ≡ Going → turns_left course left + suc turns ≡ most_turns
-  goes : 0 < turns_left course left → course ≡ Going
-
--- this holds, because a turn leaves one turn fewer while the run goes on, and none otherwise
-ticked : (course : Course) (left turns : ℕ) → 0 < left → left + turns ≡ most_turns → Ticked course left turns
-ticked Going left turns more e = record { few = omega (arith, e); clock = λ z. omega (arith, e); goes = λ z. refl }
-ticked Over left turns more e = record {
-  few = omega (arith, e);
-  clock = λ z. absurd (let y : ◌≡◌ {A = ℕ} 0 1 = cc in omega arith);
-  goes = λ z. absurd (omega arith);
-}
-ticked Failed left turns more e = record {
-  few = omega (arith, e);
-  clock = λ z. absurd (let y : ◌≡◌ {A = ℕ} 0 1 = cc in omega arith);
-  goes = λ z. absurd (omega arith);
-}
-
 -- what holds between two turns still holds after one more turn
-pub turned : {first h after : Held} {left : ℕ} {fed : Flow} {waiting : List ℕ} {taken : Taken} {asked : Asked} (answer : Answer) → 0 < left → Stands first left h
+pub turned : {first h after : Held} {turns : ℕ} {fed : Flow} {waiting : List ℕ} {taken : Taken} {asked : Asked} (answer : Answer) → h.flow.course ≡ Going → Stands first turns h
     → FedOn h.flow h.places h.out h.part after.part fed waiting
     → Kept h.flow after.part fed
     → TakenOn fed after.part h.line after.line taken
@@ -159,18 +118,13 @@ pub turned : {first h after : Held} {left : ℕ} {fed : Flow} {waiting : List �
     → ToldOn fed taken (answer_text answer taken.feed.ended after.words) h.places waiting after.out after.flow
     → length after.line ≡ length h.line
     → length after.numbers ≡ length h.numbers → after.places ≡ h.places
-    → Stands first (turns_left after.flow.course left) after
-turned {first} {h} {after} {left} {fed} {waiting} {taken} {asked} answer more s feeds on takes asking noting given tells line numbers same =
+    → Stands first (suc turns) after
+turned {first} {h} {after} {turns} {fed} {waiting} {taken} {asked} answer going s feeds on takes asking noting given tells line numbers same =
     let took = took_within takes in
     let next = tells.next in
-    let tick = ticked after.flow.course left s.turns more (s.clock (s.goes more)) in
     record {
-      turns = suc s.turns;
-      few = tick.few;
-      clock = tick.clock;
-      goes = tick.goes;
       reached = turn s.reached (record {
-        going = s.goes more;
+        going = going;
         fed = fed;
         waiting = waiting;
         feeds = feeds;

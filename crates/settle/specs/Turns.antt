@@ -1,5 +1,5 @@
 -- How a journal is played, turn by turn: what the program holds between two turns, and what one turn does.
-use Rattle.std.specs.Prelude.{ℕ, suc, ◌-◌, ◌≤◌, ◌<◌, ◌≡◌, List, [], length}
+use Rattle.std.specs.Prelude.{ℕ, suc, ◌≤◌, ◌<◌, ◌≡◌, List, [], length}
 use Rattle.book.specs.declared.Book.{Book}
 use Rattle.lines.specs.declared.Taken.{Taken}
 use Rattle.reading.specs.declared.Name.{Name}
@@ -13,8 +13,7 @@ use Rattle.answers.specs.Told.{nothing, no_call}
 use Rattle.answers.specs.Text.{most_answer, answer_text}
 use Rattle.settle.specs.declared.calls.Asked.{Asked}
 use Rattle.settle.specs.declared.calls.Played.{Played}
-use Rattle.settle.specs.declared.flow.Course.{Course}
-use Rattle.settle.specs.declared.flow.Course.TheVariants.{Going, Over, Failed}
+use Rattle.settle.specs.declared.flow.Course.TheVariants.{Going}
 use Rattle.settle.specs.declared.flow.Flow.{Flow}
 use Rattle.settle.specs.Asked.{asks, noted}
 use Rattle.settle.specs.Calls.{played_with, at_first, opens, Asking, asking_of, after_call, words_after}
@@ -97,9 +96,3 @@ pub data Reached (first : Held) : ℕ → Held → Type 0 where
 -- the most turns of a run: the largest number of 64 bits
 abbrev pub most_turns : ℕ
 most_turns = 18_446_744_073_709_551_615
-
--- the turns that are left after a turn: one fewer, or none if the run no longer goes on
-abbrev pub turns_left : Course → ℕ → ℕ
-turns_left Going turns = turns - 1
-turns_left Over turns = 0
-turns_left Failed turns = 0

@@ -1,15 +1,16 @@
 // What a line asks, and the calls that play it.
-ghost use Rattle.std.specs.Prelude.{◌≡◌, true, ◌++◌, ◌-◌, ◌≤◌, length, take, drop, replicate};
+ghost use Rattle.std.specs.Prelude.{◌≡◌, true, ◌-◌, ◌≤◌, length, take};
+ghost use Rattle.answers.specs.Told.{most_shown, numbers_told};
 ghost use Rattle.book.specs.Book.{Valid};
 ghost use Rattle.lines.specs.Input.{size};
 ghost use Rattle.reading.specs.Calls.{most_numbers, shape_right};
 ghost use Rattle.settle.specs.Asked.{nothing_asked, asked_with, asked_lent, asked_call, asks, noted, Listed};
-ghost use Rattle.settle.specs.Calls.{at_first, opens, enters, after_done, after_cancel, after_deliver, after_close, after_call, words_after};
+ghost use Rattle.settle.specs.Calls.{played_with, at_first, opens, enters, after_open, after_enter, after_done, after_cancel, after_deliver, after_close, after_call, words_after};
 ghost use Rattle.settle.specs.Calls.{close_asked, again_asked, month_asked, shown_as, balance_as, looked_as};
 ghost use Rattle.settle.specs.Calls.{targets, words_targeted, edition_told};
 
 use answers::Answer;
-use book::{Balance, Book, Cancelled, Closed, Delivered, Done, Looked, Shown};
+use book::{Balance, Book, Cancelled, Closed, Delivered, Done, Entered, Looked, Opened, Shown};
 use calendar::Day;
 use lines::Taken;
 use reading::{Line, Name, Shape};
@@ -119,20 +120,68 @@ pub fn ask(taken: Taken, line: &[u8], n: &mut [u64]) -> Asked
     }
 }
 
+impl Played {
+    // The book after a call, and the numbers with which the call is answered.
+    fn told(book: Book, shown: &[u64]) -> Played
+        requires { length shown.now ≤ most_shown }
+        ensures { result ≡ played_with book (numbers_told shown.now) }
+    {
+        Played {
+            book: book,
+            answer: Answer::numbers(shown),
+        }
+    }
+}
+
+impl From<Opened> for Played {
+    ghost from_gives = { λ opened played. played ≡ after_open opened };
+
+    fn from(opened: Opened) -> Played {
+        Played::told(opened.book, &[opened.answer])
+    }
+}
+
+impl From<Entered> for Played {
+    ghost from_gives = { λ entered played. played ≡ after_enter entered };
+
+    fn from(entered: Entered) -> Played {
+        Played::told(
+            entered.book,
+            &[entered.answer, entered.leg, entered.obligation],
+        )
+    }
+}
+
+impl From<Done> for Played {
+    ghost from_gives = { λ done played. played ≡ after_done done };
+
+    fn from(done: Done) -> Played {
+        Played::told(done.book, &[done.answer])
+    }
+}
+
+impl From<Cancelled> for Played {
+    ghost from_gives = { λ cancelled played. played ≡ after_cancel cancelled };
+
+    fn from(cancelled: Cancelled) -> Played {
+        Played::told(cancelled.book, &[cancelled.answer, cancelled.moved])
+    }
+}
+
+impl From<Delivered> for Played {
+    ghost from_gives = { λ delivered played. played ≡ after_deliver delivered };
+
+    fn from(delivered: Delivered) -> Played {
+        Played::told(delivered.book, &[delivered.answer, delivered.cash])
+    }
+}
+
 pub fn open(a: Asked, n: &[u64]) -> Played
     requires { Listed a n.now }
     ensures value { result ≡ opens a n.now }
     ensures valid { Valid result.book }
 {
-    let from = a.from;
-    let to = a.to;
-    let done = Book::open(Day(a.first), &n[from..to], a.second);
-    let shown = [done.answer];
-    let after = done.book;
-    Played {
-        book: after,
-        answer: Answer::numbers(&shown),
-    }
+    Played::from(Book::open(Day(a.first), &n[a.from..a.to], a.second))
 }
 
 // An enter has a function of its own, because its arguments would make the loop over the lines hard to read.
@@ -141,74 +190,20 @@ pub fn enter(book: Book, a: Asked) -> Played
     ensures value { result ≡ enters book a }
     ensures valid { Valid result.book }
 {
-    let done = book.enter(a.first, a.second, a.third, a.fourth, a.fifth, Day(a.sixth));
-    let shown = [done.answer, done.leg, done.obligation];
-    let after = done.book;
-    Played {
-        book: after,
-        answer: Answer::numbers(&shown),
-    }
-}
-
-// What is answered to a call whose only result is its answer number.
-pub fn done(done: Done) -> Played
-    ensures { result ≡ after_done done }
-{
-    let shown = [done.answer];
-    let after = done.book;
-    Played {
-        book: after,
-        answer: Answer::numbers(&shown),
-    }
-}
-
-// What is answered to a cancel.
-pub fn cancelled(done: Cancelled) -> Played
-    ensures { result ≡ after_cancel done }
-{
-    let shown = [done.answer, done.moved];
-    let after = done.book;
-    Played {
-        book: after,
-        answer: Answer::numbers(&shown),
-    }
-}
-
-// What is answered to a deliver.
-pub fn delivered(done: Delivered) -> Played
-    ensures { result ≡ after_deliver done }
-{
-    let shown = [done.answer, done.cash];
-    let after = done.book;
-    Played {
-        book: after,
-        answer: Answer::numbers(&shown),
-    }
-}
-
-// Fills the first count places with the value.
-fn fill(words: &mut [u64], count: usize, value: u64)
-    requires { count ≤ length words.old }
-    ensures { words.new ≡ replicate count value ++ drop count words.old }
-{
-    let mut i = 0;
-    while i < count {
-        words[i] = value;
-        i += 1;
-    }
+    Played::from(book.enter(a.first, a.second, a.third, a.fourth, a.fifth, Day(a.sixth)))
 }
 
 // What is answered to a close or an again that was lent this number of words, filled with this value.
 fn closed(done: Closed, lent: usize, fill: u64) -> Played
     ensures { result ≡ after_close done lent fill }
 {
-    let after = done.book;
     Played {
-        book: after,
+        book: done.book,
         answer: Answer::closed(done.answer, done.count, lent, fill),
     }
 }
 
+#[tactic(auto, unfolding(crate::specs::Calls::answer_by, crate::specs::Calls::words_by))]
 pub fn close(book: Book, a: Asked, words: &mut [u64]) -> Played
     requires { (Valid book) × (a.lent ≤ length words.old) }
     ensures value { result ≡ after_call book a (close_asked a) }
@@ -216,11 +211,12 @@ pub fn close(book: Book, a: Asked, words: &mut [u64]) -> Played
     ensures valid { Valid result.book }
 {
     let lent = a.lent;
-    fill(words, lent, a.fill);
+    words[..lent].fill(a.fill);
     let done = book.close(a.first, &mut words[..lent]);
     closed(done, lent, a.fill)
 }
 
+#[tactic(auto, unfolding(crate::specs::Calls::answer_by, crate::specs::Calls::words_by))]
 pub fn again(book: Book, a: Asked, words: &mut [u64]) -> Played
     requires { (Valid book) × (a.lent ≤ length words.old) }
     ensures value { result ≡ after_call book a (again_asked a) }
@@ -228,11 +224,12 @@ pub fn again(book: Book, a: Asked, words: &mut [u64]) -> Played
     ensures valid { Valid result.book }
 {
     let lent = a.lent;
-    fill(words, lent, a.fill);
+    words[..lent].fill(a.fill);
     let shown = book.again(&mut words[..lent]);
     closed(shown, lent, a.fill)
 }
 
+#[tactic(auto, unfolding(crate::specs::Calls::answer_by, crate::specs::Calls::words_by))]
 pub fn month(book: Book, a: Asked, n: &[u64], words: &mut [u64]) -> Played
     requires { (Valid book) × (Listed a n.now) × (a.lent ≤ length words.old) }
     ensures value { result ≡ after_call book a (month_asked a n.now) }
@@ -240,15 +237,11 @@ pub fn month(book: Book, a: Asked, n: &[u64], words: &mut [u64]) -> Played
     ensures valid { Valid result.book }
 {
     let lent = a.lent;
-    fill(words, lent, a.fill);
-    let from = a.from;
-    let to = a.to;
-    let done = book.month(&n[from..to], &mut words[..lent]);
-    let shown = [done.answer];
-    let after = done.book;
+    words[..lent].fill(a.fill);
+    let done = book.month(&n[a.from..a.to], &mut words[..lent]);
     Played {
-        book: after,
-        answer: Answer::with_words(&shown, lent),
+        book: done.book,
+        answer: Answer::with_words(&[done.answer], lent),
     }
 }
 
@@ -257,7 +250,7 @@ pub fn shown(shown: Shown) -> Answer
     ensures { result ≡ shown_as shown }
 {
     let parts = shown.parts;
-    let numbers = [
+    Answer::numbers(&[
         shown.answer,
         shown.quantity,
         parts.delivered as u64,
@@ -265,8 +258,7 @@ pub fn shown(shown: Shown) -> Answer
         parts.compensated as u64,
         parts.cancelled as u64,
         parts.outstanding as u64,
-    ];
-    Answer::numbers(&numbers)
+    ])
 }
 
 // What is answered to an account.
@@ -280,8 +272,7 @@ pub fn balance(balance: Balance) -> Answer
 pub fn looked(looked: Looked) -> Answer
     ensures { result ≡ looked_as looked }
 {
-    let numbers = [looked.answer, looked.obligation];
-    Answer::numbers(&numbers)
+    Answer::numbers(&[looked.answer, looked.obligation])
 }
 
 // A target takes no book: it writes closed days, with which a book may be opened later.
@@ -291,10 +282,9 @@ pub fn target_days(a: Asked, words: &mut [u64]) -> Answer
     ensures words_after { words.new ≡ words_targeted a words.old }
 {
     let lent = a.lent;
-    fill(words, lent, a.fill);
+    words[..lent].fill(a.fill);
     let done = holidays::target_days(a.first, a.second, &mut words[..lent]);
-    let shown = [done.answer, done.count as u64];
-    Answer::with_words(&shown, lent)
+    Answer::with_words(&[done.answer, done.count as u64], lent)
 }
 
 // The edition of the rules that the book follows: the number of the latest change in docs/RULES.md.
@@ -303,8 +293,7 @@ pub const EDITION: u64 = 5;
 pub fn rules() -> Answer
     ensures { result ≡ edition_told }
 {
-    let numbers = [0, EDITION];
-    Answer::numbers(&numbers)
+    Answer::numbers(&[0, EDITION])
 }
 
 // Before the first line the book is the one that a refused Open returns.
@@ -312,11 +301,9 @@ pub fn before_all() -> Played
     ensures value { result ≡ at_first }
     ensures valid { Valid result.book }
 {
-    let none = [0u64; 0];
-    let opened = Book::open(Day(0), &none, 2);
-    let fresh = opened.book;
+    let opened = Book::open(Day(0), &[], 2);
     Played {
-        book: fresh,
+        book: opened.book,
         answer: Answer::nothing(),
     }
 }

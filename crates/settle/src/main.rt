@@ -3,10 +3,12 @@
 // With an argument on its command line it says what it is and plays nothing.
 #![tactic(auto)]
 
-ghost use Rattle.std.specs.Prelude.{◌≡◌, ◌<◌, ◌-◌, ◌≤◌, length};
-ghost use Rattle.settle.specs.Turns.{Buffers, begins, turns_left};
+ghost use Rattle.std.specs.Prelude.{◌≡◌, ◌≤◌, ◌↔◌, IsTrue, length};
+ghost use Rattle.settle.specs.Turns.{Buffers, begins};
 ghost use Rattle.settle.specs.Ending.{PlaysIn};
+ghost use Rattle.settle.specs.declared.flow.Course.TheVariants.{Going};
 
+use crate::calls::Played;
 use answers::Answer;
 use calendar::Day;
 use flow::{Course, Streams};
@@ -20,23 +22,22 @@ use writing::Output;
 mod calls;
 mod flow;
 
-// The number of turns that are left after a turn. There are none once the input is over or the run has failed.
-fn turns_left(turns: u64, course: Course) -> u64
-    requires { 0 < turns }
-    ensures { result ≡ turns_left course turns }
+// Whether the run goes on. It does until the input is over, or until a read or a write has failed.
+fn goes_on(course: Course) -> bool
+    ensures { IsTrue result ↔ course ≡ Going }
 {
     match course {
-        Course::Going => turns - 1,
-        Course::Over => 0,
-        Course::Failed => 0,
+        Course::Going => true,
+        Course::Over => false,
+        Course::Failed => false,
     }
 }
 
-// Plays the journal. A proved loop has to end, but a journal may go on for ever. So the loop counts its turns down from
-// a number that no run uses up. A turn takes bytes of one line, and plays the line if it has ended. The calls are made
-// here and not in a function of their own, because the book would be copied once more on its way to that function. The
-// answer is handed on by value, since the book beside it would be copied once more if the answer were lent. What is in
-// the output in the end is still to be written. If the whole journal was played, it ends with the line `end`.
+// Plays the journal. A proved loop has to end, but a journal may go on for ever. So the loop has more turns than any run
+// uses up. A turn takes bytes of one line, and plays the line if it has ended. The calls are made here and not in a
+// function of their own, because the book would be copied once more on its way to that function. The answer is handed on
+// by value, since the book beside it would be copied once more if the answer were lent. What is in the output in the end
+// is still to be written. If the whole journal was played, it ends with the line `end`.
 fn settle_all<const N: usize>(
     streams: Streams,
     part: &mut [u8],
@@ -50,10 +51,12 @@ fn settle_all<const N: usize>(
         part.new line.new numbers.new words.new N out.new }
 {
     out.clear();
-    let mut turns = u64::MAX;
     let mut flow = flow::start();
     let mut played = calls::before_all();
-    while 0 < turns {
+    for _ in 0..u64::MAX {
+        if !goes_on(flow.course) {
+            break;
+        }
         let fed = flow::feed_on(streams, flow, part, out);
         let taken = flow::take(fed, part, line);
         let a = calls::ask(taken, line, numbers);
@@ -62,13 +65,13 @@ fn settle_all<const N: usize>(
             Line::Call(name, _, _) => match name {
                 Name::Open => played = calls::open(a, numbers),
                 Name::Enter => played = calls::enter(played.book, a),
-                Name::Withdraw => played = calls::done(played.book.withdraw(a.first, a.second)),
-                Name::Cancel => played = calls::cancelled(played.book.cancel(a.first, a.second)),
-                Name::Deliver => played = calls::delivered(played.book.deliver(a.first, a.second)),
+                Name::Withdraw => played = Played::from(played.book.withdraw(a.first, a.second)),
+                Name::Cancel => played = Played::from(played.book.cancel(a.first, a.second)),
+                Name::Deliver => played = Played::from(played.book.deliver(a.first, a.second)),
                 Name::Offer => {
-                    played = calls::done(played.book.offer(a.first, a.second, a.third, a.fourth))
+                    played = Played::from(played.book.offer(a.first, a.second, a.third, a.fourth))
                 }
-                Name::Rate => played = calls::done(played.book.rate(Day(a.first), a.second)),
+                Name::Rate => played = Played::from(played.book.rate(Day(a.first), a.second)),
                 Name::Close => played = calls::close(played.book, a, words),
                 Name::Again => played = calls::again(played.book, a, words),
                 Name::Month => played = calls::month(played.book, a, numbers, words),
@@ -82,8 +85,6 @@ fn settle_all<const N: usize>(
             Line::NoCall => played.answer = Answer::no_call(),
         }
         flow = flow::tell(fed, taken, played.answer, words, out);
-        let course = flow.course;
-        turns = turns_left(turns, course);
     }
     flow::tell_last(flow, line, out);
 }
@@ -91,49 +92,25 @@ fn settle_all<const N: usize>(
 // Places for the bytes of one read.
 const READ_PLACES: usize = 65_536;
 
-fn read_places() -> [u8; READ_PLACES]
-    ensures { 65536 ≡ length result }
-{
-    [0; READ_PLACES]
-}
-
 // Places for the bytes of a line. There is one more than a call's line may have bytes, so that a line that is too long
 // can be told from one that is not.
 const LINE_PLACES: usize = 65_537;
 
-fn line_places() -> [u8; LINE_PLACES]
-    ensures { 65537 ≡ length result }
-{
-    [0; LINE_PLACES]
-}
-
 // Places for the numbers of a line.
 const NUMBER_PLACES: usize = 4_104;
 
-fn number_places() -> [u64; NUMBER_PLACES]
-    ensures { 4104 ≡ length result }
-{
-    [0; NUMBER_PLACES]
-}
-
 // Places for the words that a Close, an Again, a Month or a Target is lent.
 const WORD_PLACES: usize = 4_096;
-
-fn word_places() -> [u64; WORD_PLACES]
-    ensures { 4096 ≡ length result }
-{
-    [0; WORD_PLACES]
-}
 
 // Places for the answers. There are more than the longest answer takes.
 const ANSWER_PLACES: usize = 131_072;
 
 // Plays the journal, and writes what is left of the output.
 fn play(streams: Streams) {
-    let mut part = read_places();
-    let mut line = line_places();
-    let mut numbers = number_places();
-    let mut words = word_places();
+    let mut part = [0u8; READ_PLACES];
+    let mut line = [0u8; LINE_PLACES];
+    let mut numbers = [0u64; NUMBER_PLACES];
+    let mut words = [0u64; WORD_PLACES];
     let mut out: Output<ANSWER_PLACES> = Output::new();
     settle_all(
         streams,
@@ -171,10 +148,7 @@ fn tell_about(streams: Streams) {
 // `NotPresent` as its answer: one that is there may be longer than its place.
 fn has_arguments(rt: &impl Env) -> bool {
     let mut place = [0u8; 1];
-    match rt.arg(1, &mut place) {
-        Err(FillError::NotPresent) => false,
-        _ => true,
-    }
+    !matches!(rt.arg(1, &mut place), Err(FillError::NotPresent))
 }
 
 // The exit status is 0 even if a read or a write failed. Whether the whole journal was played and answered is told by

@@ -17,12 +17,12 @@ transfer-requires c = (
   done_accounts _ _ _ _ _ _ _ c.loop-i.invariant ∙ c.requires.valid.accounts.size,
 )
 
-pub close_due-closed-requires-clause-closes : goal.close_due-closed-requires-clause-closes
-close_due-closed-requires-clause-closes c =
+pub close_due-requires-clause-closes : goal.close_due-requires-clause-closes
+close_due-requires-clause-closes c =
     (done_closes _ _ _ _ _ _ _ c.loop-i.invariant c.requires c.loop-i-test.true, c.penalty_on-cents.ensures)
 
-pub close_due-closed-requires-clause-room : goal.close_due-closed-requires-clause-room
-close_due-closed-requires-clause-room c =
+pub close_due-requires-clause-room : goal.close_due-requires-clause-room
+close_due-requires-clause-room c =
     done_room _ _ _ _ _ _ _ c.loop-i.invariant c.requires c.loop-i-test.true (sym c.is_due.ensures ∙ c.if-is_due.true)
 
 pub loop-i-preserved : goal.loop-i-preserved
@@ -31,7 +31,7 @@ loop-i-preserved c =
       | then-is_due w ↦
           rw (w.ledger-is, w.lines-is, w.count-is)
           (done_due _ _ _ _ _ _ _ c.loop-i.invariant (sym c.is_due.ensures ∙ w.if-is_due.true) _
-          (rw (← w.penalty_sides-sides.ensures, ← w.penalty_on-cents.ensures) w.transfer.ensures) _ _ w.close_due-closed.ensures)
+          (rw (← w.penalty_sides-sides.ensures, ← w.penalty_on-cents.ensures) w.transfer.ensures) _ _ w.close_due.ensures)
       | else-is_due w ↦
           rw (w.ledger-is, w.lines-is, w.count-is) (done_idle _ _ _ _ _ _ _ c.loop-i.invariant (sym c.is_due.ensures ∙ w.if-is_due.false))
     ]

@@ -24,23 +24,23 @@ abbrev row_at : ℕ → BuyIn → Given
 row_at k b = get_or b.given k nothing_given
 
 pub insert-requires : goal.insert-requires
-insert-requires c = omega (arith, same_count c.none.ensures)
+insert-requires c = omega (arith, same_count c.none-offers.ensures)
 
 pub insert-requires-2 : goal.insert-requires-2
-insert-requires-2 c = omega (arith, same_count c.insert.ensures, same_count c.none.ensures)
+insert-requires-2 c = omega (arith, same_count c.insert.ensures, same_count c.none-offers.ensures)
 
-pub insert-offers-requires : goal.insert-offers-requires
-insert-offers-requires c = omega (arith, same_count c.insert-2.ensures, same_count c.insert.ensures, same_count c.none.ensures)
+pub insert-requires-3 : goal.insert-requires-3
+insert-requires-3 c = omega (arith, same_count c.insert-2.ensures, same_count c.insert.ensures, same_count c.none-offers.ensures)
 
 pub buy_in-bought-requires : goal.buy_in-bought-requires
-buy_in-bought-requires c = omega (arith, same_count c.insert-offers.ensures, same_count c.insert-2.ensures, same_count c.insert.ensures, same_count c.none.ensures)
+buy_in-bought-requires c = omega (arith, same_count c.insert-3.ensures, same_count c.insert-2.ensures, same_count c.insert.ensures, same_count c.none-offers.ensures)
 
 pub returns : goal.returns
 unfolding overtakes inserted_by offers_for with_given given_by given
 returns c =
-    let one = c.insert.ensures ∙ ap₂ with_offer c.none.ensures c.offered.ensures in
+    let one = c.insert.ensures ∙ ap₂ with_offer c.none-offers.ensures c.offered.ensures in
     let two = c.insert-2.ensures ∙ ap₂ with_offer one c.offered-2.ensures in
-    let three = c.insert-offers.ensures ∙ ap₂ with_offer two c.offered-3.ensures in
+    let three = c.insert-3.ensures ∙ ap₂ with_offer two c.offered-3.ensures in
     let bought = c.buy_in-bought.ensures ∙ ap gives three in
     omega (
       arith,

@@ -2,41 +2,28 @@
 use Prim.Native.Nat.{ℕ, ◌+◌, ◌*◌}
 use native.Mathlib.Nat.{le_antisymm}
 use native.Mathlib.Omega.{arith}
-use mathlib.Core.Path.{◌≡◌, refl, ap, ◌∙◌}
+use mathlib.Core.Path.{refl, ap, ◌∙◌}
 use mathlib.Core.List.{List}
-use lib.ListN.{length}
-use lib.Seq.{sets, length-sets}
+use lib.Seq.{sets}
 use Rattle.basics.proofs.Stores.{sets_ahead}
 use Rattle.holidays.specs.Target.{closed_in_year, closed_from}
 use Rattle.holidays.proofs.Rising.{closed_length, stored_more}
 use Rattle.holidays.proofs.write_years.Goals as goal
 
--- the list has kept its length
-sized : {now : List ℕ} (old : List ℕ) (first i : ℕ) → now ≡ sets old 0 (closed_from first i) → length now ≡ length old
-sized old first i e = ap length e ∙ length-sets old 0 (closed_from first i)
-
 pub loop-i-init : goal.loop-i-init
 unfolding closed_from
-loop-i-init c = (omega arith, refl)
-
-pub put_year-requires : goal.put_year-requires
-put_year-requires c = (
-  record { from = omega (arith, c.requires.0); to = omega (arith, c.requires.1, c.loop-i-test.true) },
-  omega (arith, c.requires.2, c.loop-i-test.true, sized c.args.days.now c.args.first c.loop-i.i c.loop-i.invariant.1),
-)
+loop-i-init c = refl
 
 pub loop-i-preserved : goal.loop-i-preserved
-loop-i-preserved c = (
-  omega (arith, c.loop-i-test.true),
-  c.put_year.ensures
-      ∙ ap (λ (l : List ℕ). sets l (6 * c.loop-i.i) (closed_in_year (c.args.first + c.loop-i.i))) c.loop-i.invariant.1
-      ∙ stored_more c.args.days.now c.args.first c.loop-i.i,
-)
+loop-i-preserved c =
+    c.put_year.ensures
+    ∙ ap (λ (l : List ℕ). sets l (6 * c.loop-i.i) (closed_in_year (c.args.first + c.loop-i.i))) c.loop-i.invariant
+    ∙ stored_more c.args.days.now c.args.first c.loop-i.i
 
 pub returns : goal.returns
 returns c =
-    let all = le_antisymm c.loop-i.invariant.0 c.loop-i-test.false in
+    let all = le_antisymm c.loop-i.auto.i-end c.loop-i-test.false in
     let size = closed_length c.args.first c.args.years in
-    c.loop-i.invariant.1
+    c.loop-i.invariant
     ∙ ap (λ i. sets c.args.days.now 0 (closed_from c.args.first i)) all
     ∙ sets_ahead c.args.days.now (closed_from c.args.first c.args.years) (omega (arith, c.requires.2))

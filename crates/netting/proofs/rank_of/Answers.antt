@@ -1,40 +1,20 @@
--- `rank_of` meets its contract: after k turns the count is that of the first k members that come before m.
-use Prim.Native.Nat.{◌+◌, ℕ}
-use native.Mathlib.Omega.{arith}
-use mathlib.Core.Bool.{true, false}
-use mathlib.Core.Path.{sym, ap, ◌∙◌, ◌≡◌}
-use borrow.Author.Rules.{rules}
-use Rattle.basics.specs.Lists.{count_below}
-use Rattle.netting.specs.Shares.{rank}
-use Rattle.basics.proofs.Counts.{count_next, count_within}
+-- `rank_of` meets its contract.
+use Rattle.std.proofs.Common.{rules, arith, tests, ℕ, ◌∙◌, sym}
+use Rattle.std.proofs.lemmas.Iterator.{YieldsList-from_range}
+use Rattle.std.proofs.lemmas.Iterator.Consumers.{YieldsList-from_filter, count_from_yields_List}
+use Rattle.std.proofs.lemmas.List.Sums.{length-filter}
+use Rattle.std.specs.List.{range_with_len}
 use Rattle.netting.specs.Accounts.{member_count}
-use Rattle.netting.proofs.rank_of.Invariants.{comes}
+use Rattle.netting.specs.Portions.{remainder_of}
+use Rattle.netting.specs.Shares.{comes_before, rank}
+use Rattle.netting.proofs.Library.{count_is}
 use Rattle.netting.proofs.rank_of.Goals as goal
-use Rattle.netting.proofs.rank_of.Goals.{else-comes_before, then-comes_before}
-
-pub loop-k-init : goal.loop-k-init
-unfolding count_below
-loop-k-init c = search rules
-
-pub overflow_add-ahead : goal.overflow_add-ahead
-overflow_add-ahead c =
-    let a = c.args in
-    omega (arith, count_within c.loop-k.k (comes a.remainders a.m))
-
-pub loop-k-preserved : goal.loop-k-preserved
-loop-k-preserved c =
-    let v = c.loop-k.invariant in
-    let a = c.args in
-    let n = c.loop-k.ahead in
-    let next = count_next c.loop-k.k (comes a.remainders a.m) in
-    let e = sym c.comes_before.ensures in (
-      omega arith,
-      elim c.if-comes_before.branch [ then-comes_before w ↦ let q : c.if-comes_before.ahead ≡ n + 1 = w.ahead-is in omega (arith, next true (e ∙ w.if-comes_before.true)) | else-comes_before w ↦ let q : c.if-comes_before.ahead ≡ n = w.ahead-is in omega (arith, next false (e ∙ w.if-comes_before.false)) ],
-    )
 
 pub returns : goal.returns
 unfolding rank
 returns c =
     let a = c.args in
-    let h : c.loop-k.k ≡ member_count = omega arith in
-    c.loop-k.invariant.1 ∙ ap (λ (n : ℕ). count_below n (comes a.remainders a.m)) h
+    let before = λ (k : ℕ). comes_before (remainder_of a.parts.now) k a.m in
+    count_from_yields_List c.filter-ahead.result _ c.count.ensures.ran
+    (YieldsList-from_filter _ before (YieldsList-from_range 0 member_count member_count c.filter-ahead.ensures.source (omega arith)) c.filter-ahead.ensures.closure (λ x r q k. search (rules, tests)))
+    ∙ length-filter before (range_with_len 0 member_count) ∙ sym (count_is member_count before)

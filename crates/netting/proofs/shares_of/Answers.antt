@@ -1,52 +1,41 @@
--- `shares_of` meets its contract: after m turns the first m places hold the shares of the first m members.
-use native.Mathlib.Omega.{arith}
-use mathlib.Core.Path.{ap, ◌∙◌}
-use borrow.Author.Rules.{rules}
-use Rattle.basics.proofs.Tables.{filled_more, is_table}
-use Rattle.netting.specs.Portions.{Dividable, share_of}
+-- `shares_of` meets its contract: for each member it takes the share of the portions, which is its share by the rules.
+use Rattle.std.proofs.Common.{rules, arith, ◌≡◌, ◌∙◌, ◌≤◌, ◌^◌, get_or, pos, ap}
+use Rattle.basics.proofs.Arrays.{mapped_is, made_is, asked_below}
+use Rattle.netting.specs.Accounts.{claim, claims}
+use Rattle.netting.specs.Portions.{Dividable, floor_of, share_of}
 use Rattle.netting.specs.Shares.{share, shares}
 use Rattle.netting.specs.declared.Portions.{Portions}
-use Rattle.netting.specs.Accounts.{member_count}
 use Rattle.netting.proofs.Steps.{dividable, floor_small, share_made}
 use Rattle.netting.proofs.shares_of.Goals as goal
-use Rattle.netting.proofs.shares_of.Goals.{After-claims_of-claims}
+use Rattle.netting.proofs.shares_of.Goals.{After-map-claims}
 
-asked : (c : After-claims_of-claims) → Dividable c.args.collected c.claims_of-claims.result
-asked c =
-    let a = c.args in
-    let gs = c.claims_of-claims in
-    dividable a.accounts a.collected gs.result (search rules) c.requires gs.ensures
+claimed : (c : After-map-claims) → c.map-claims.result ≡ claims c.args.accounts
+claimed c = mapped_is claim (pos 0) (λ x y q k. search rules) (search rules) c.map-claims.ensures.items
+
+asked : (c : After-map-claims) → Dividable c.args.collected c.map-claims.result
+asked c = rw (claimed c) (dividable c.args.accounts c.args.collected (search rules) c.requires)
 
 pub portions_of-portions-requires : goal.portions_of-portions-requires
-portions_of-portions-requires c = asked c
+portions_of-portions-requires c = asked (goal.at.portions_of-portions-requires c).After-map-claims
 
-pub share_of-requires : goal.share_of-requires
-share_of-requires c =
-    let n = c.args.collected in
-    let gs = c.claims_of-claims.result in
+pub from_fn-requires : goal.from_fn-requires
+from_fn-requires c =
     let p = c.portions_of-portions in (
       omega arith,
-      floor_small n gs p.result (search rules) (asked c.before.before.before) p.ensures _,
-    )
-
-pub loop-m-preserved : goal.loop-m-preserved
-loop-m-preserved c =
-    let v = c.loop-m in
-    let n = c.args.collected in
-    let gs = c.claims_of-claims.result in
-    let p = c.portions_of-portions in
-    let s = c.share_of in
-    let e = ap (λ (q : Portions). share_of gs q v.m) p.ensures ∙ share_made n gs v.m (omega arith) in (
-      omega arith,
-      search rules,
-      filled_more v.payouts 0 v.m s.result (share n gs) (omega arith) v.invariant.2 (s.ensures ∙ e),
+      asked_below (λ x q k. search rules)
+          (λ x l.
+          let small : floor_of p.result.parts x ≤ 2 ^ 48 =
+          floor_small c.args.collected c.map-claims.result p.result x c.map-claims.ensures.items.long (asked (goal.at.from_fn-requires c).After-map-claims) p.ensures l in
+          search rules),
     )
 
 pub returns : goal.returns
 unfolding shares
 returns c =
-    let v = c.loop-m.invariant in
     let n = c.args.collected in
-    let gs = c.claims_of-claims in
-    is_table member_count (share n gs.result) c.loop-m.payouts 0 v.1 (λ k l. v.2 k (omega arith))
-    ∙ ap (shares n) gs.ensures
+    let gs = c.map-claims.result in
+    let p = c.portions_of-portions in
+    made_is (λ m. share_of (get_or gs m 0) p.result m) (share n gs) (λ x y q k. search rules)
+    (λ m l. ap (λ (q : Portions). share_of (get_or gs m 0) q m) p.ensures ∙ share_made n gs c.map-claims.ensures.items.long m l)
+    c.from_fn.ensures.items
+    ∙ ap (shares n) (claimed (goal.at.returns c).After-map-claims)

@@ -1,4 +1,4 @@
--- The loop's invariant: `Stands` holds, and the buffers keep their lengths. The measure is how many turns are left.
+-- The loop's invariant: `Stands` holds, and the buffers keep their lengths.
 use Rattle.std.proofs.Common.{◌≡◌, List, ℕ, length}
 use Rattle.book.specs.declared.Book.{Book}
 use Rattle.settle.specs.declared.flow.Flow.{Flow}
@@ -19,15 +19,12 @@ held book flow part line numbers words places out = record {
   out = out;
 }
 
-abbrev pub invariant-loop-turns : goal.invariant-loop-turns
-invariant-loop-turns g l = record {
-  stands : Stands (begins l.initial.part l.initial.line l.initial.numbers l.initial.words g.row.N) l.turns
+abbrev pub invariant-loop : goal.invariant-loop
+invariant-loop g l = record {
+  stands : Stands (begins l.initial.part l.initial.line l.initial.numbers l.initial.words g.row.N) l.counter
       (held l.played.book l.flow l.part l.line l.numbers l.words g.row.N l.out);
   part_same : length l.part ≡ length l.initial.part;
   line_same : length l.line ≡ length l.initial.line;
   numbers_same : length l.numbers ≡ length l.initial.numbers;
   words_same : length l.words ≡ length l.initial.words;
 }
-
-abbrev pub decreases-loop-turns : goal.decreases-loop-turns
-decreases-loop-turns g l = l.turns

@@ -1,22 +1,14 @@
 -- `look` meets its contract.
-use Prim.Native.Nat.{ℕ}
-use native.Mathlib.Omega.{arith}
-use mathlib.Core.Path.{refl, sym, ◌∙◌, ◌≡◌}
-use borrow.Author.Tests.{lt-ltb, le-ltb}
-use Rattle.basics.proofs.Refusals.{pass, stop, all_passed}
+use mathlib.Core.Path.{refl, sym, ◌∙◌}
+use Rattle.basics.proofs.Reasons.{number_some, number_by, zero_by}
 use Rattle.book.proofs.Book.look.Goals as goal
 
-apart : ◌≡◌ {A = ℕ} 1 0 → ⊥
-apart e = omega arith
+pub returns-in-Err-clause-looks : goal.returns-in-Err-clause-looks
+returns-in-Err-clause-looks c =
+    let e = number_by c.member_in.ensures c.in-Err.is in
+    record { number = c.from.ensures ∙ sym e; choice = λ z. absurd (number_some _ (sym e ∙ z)); zero = λ z. refl; same = refl }
 
-pub returns-then-member-gt-LAST_MEMBER : goal.returns-then-member-gt-LAST_MEMBER
-returns-then-member-gt-LAST_MEMBER c = record {
-  looks = record { number = sym (stop 1 _ (lt-ltb _ _ c.if-member-gt-LAST_MEMBER.true)); choice = λ e. absurd (apart (sym (stop 1 _ (lt-ltb _ _ c.if-member-gt-LAST_MEMBER.true)) ∙ e)); zero = λ e. refl; same = refl };
-  valid = c.requires;
-}
-
-pub returns : goal.returns
-returns c = let e = pass 1 _ (le-ltb _ _ c.if-member-gt-LAST_MEMBER.false) ∙ all_passed in record {
-  looks = record { number = sym e; choice = λ q. c.late_of-obligation.ensures; zero = λ q. absurd (q e); same = refl };
-  valid = c.requires;
-}
+pub returns-clause-looks : goal.returns-clause-looks
+returns-clause-looks c =
+    let e = zero_by c.member_in.ensures c.in_default.is in
+    record { number = sym e; choice = λ q. c.late_of-obligation.ensures; zero = λ q. absurd (q e); same = refl }

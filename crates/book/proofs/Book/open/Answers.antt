@@ -17,7 +17,7 @@ opened_with n b = record { answer = n; book = b }
 pub returns-then-terms-gt1 : goal.returns-then-terms-gt1
 unfolding opened open_refusals
 returns-then-terms-gt1 c = record {
-  value = ap (opened_with 1) c.refused.ensures ∙ refused_by 1 _ _ open_refused (stop 1 _ (lt-ltb 1 c.args.terms (omega arith))) refl;
+  value = c.refused.ensures ∙ refused_by 1 _ _ open_refused (stop 1 _ (lt-ltb 1 c.args.terms (omega arith))) refl;
   valid = rw c.refused.ensures refused_valid;
   closed_stays = refl;
 }
@@ -25,7 +25,7 @@ returns-then-terms-gt1 c = record {
 pub returns-then-refuses_closed : goal.returns-then-refuses_closed
 unfolding opened open_refusals
 returns-then-refuses_closed c = record {
-  value = ap (opened_with 4) c.refused-then-refuses_closed.ensures ∙ refused_by 4 _ _ open_refused (pass 1 _ (le-ltb 1 c.args.terms (omega arith)) ∙ stop 4 _ (sym c.refuses_closed.ensures.value ∙ c.if-refuses_closed.true)) refl;
+  value = c.refused-then-refuses_closed.ensures ∙ refused_by 4 _ _ open_refused (pass 1 _ (le-ltb 1 c.args.terms (omega arith)) ∙ stop 4 _ (sym c.refuses_closed.ensures.value ∙ c.if-refuses_closed.true)) refl;
   valid = rw c.refused-then-refuses_closed.ensures refused_valid;
   closed_stays = refl;
 }
@@ -36,7 +36,7 @@ of-days-requires c = closed_short _ (sym c.refuses_closed.ensures.value ∙ c.if
 pub returns-then-is_bad_first : goal.returns-then-is_bad_first
 unfolding opened open_refusals
 returns-then-is_bad_first c = record {
-  value = ap (opened_with 11) c.refused-then-is_bad_first.ensures ∙ refused_by 11 _ _ open_refused (pass 1 _ (le-ltb 1 c.args.terms (omega arith)) ∙ pass 4 _ (sym c.refuses_closed.ensures.value ∙ c.if-refuses_closed.false) ∙ stop 11 _ (rw c.of-days.ensures.value at (sym c.is_bad_first.ensures ∙ c.if-is_bad_first.true))) refl;
+  value = c.refused-then-is_bad_first.ensures ∙ refused_by 11 _ _ open_refused (pass 1 _ (le-ltb 1 c.args.terms (omega arith)) ∙ pass 4 _ (sym c.refuses_closed.ensures.value ∙ c.if-refuses_closed.false) ∙ stop 11 _ (rw c.of-days.ensures.value at (sym c.is_bad_first.ensures ∙ c.if-is_bad_first.true))) refl;
   valid = rw c.refused-then-is_bad_first.ensures refused_valid;
   closed_stays = refl;
 }

@@ -2,9 +2,10 @@
 use Prim.Native.Nat.{ℕ, ◌≤◌, ◌<◌}
 use Rattle.std.specs.Prelude.{Option, Some, None}
 use native.Mathlib.Omega.{arith}
-use mathlib.Core.Path.{◌≡◌, refl, sym, ap, ap₂, ◌∙◌}
+use mathlib.Core.Path.{◌≡◌, refl, sym, ap, ◌∙◌}
 use mathlib.Core.Bool.{false≢true}
 use Rattle.basics.specs.Refusals.{answer}
+use Rattle.basics.proofs.Reasons.{number_some, number_by, zero_by}
 use Rattle.basics.proofs.Refusals.{passed, refused_with, done_by}
 use Rattle.instructions.specs.declared.Legs.{Legs}
 use Rattle.instructions.specs.declared.Leg.{Leg}
@@ -39,27 +40,21 @@ unfolding withdraw_by
 done_as b n member None e = absurd (absent_some member e)
 done_as b n member (Some l) e = done_by (withdraw_refusals (Some l) member) (withdraw_done b n) (done_refused b) e
 
-pub withdraw_answer-number-requires : goal.withdraw_answer-number-requires
-withdraw_answer-number-requires c = c.requires.legs.few
+pub may_withdraw-requires : goal.may_withdraw-requires
+may_withdraw-requires c = c.requires.legs.few
+
+pub returns-in-Err-clause-value : goal.returns-in-Err-clause-value
+unfolding withdraw
+returns-in-Err-clause-value c =
+    c.refused.ensures ∙ refused_as _ _ _ _ _ (number_by c.may_withdraw.ensures c.in-Err.is) (number_some _)
 
 pub set_state-requires : goal.set_state-requires
-set_state-requires c =
-    there c.args.self.legs c.args.leg c.args.member c.requires.legs.few (sym c.withdraw_answer-number.ensures ∙ c.if-number-eq0.true)
+set_state-requires c = there _ _ _ c.requires.legs.few (zero_by c.may_withdraw.ensures c.in_default.is)
 
-pub returns-then-number-eq0 : goal.returns-then-number-eq0
+pub returns : goal.returns
 unfolding withdraw
-returns-then-number-eq0 c =
-    let a = c.args in
-    let z = c.if-number-eq0.true in
-    let made : ℕ → Legs → Done = λ (k : ℕ) (legs : Legs). record { answer = k; book = with_legs legs a.self } in
-    answered (λ (r : Done). r.book)
-    (ap₂ made z c.set_state.ensures ∙ done_as a.self a.leg a.member _ (sym c.withdraw_answer-number.ensures ∙ z))
-    (withdraw_valid _ c.requires a.leg a.member)
-
-pub returns-else-number-eq0 : goal.returns-else-number-eq0
-unfolding withdraw
-returns-else-number-eq0 c =
+returns c =
     let a = c.args in
     answered (λ (r : Done). r.book)
-    (refused_as a.self a.leg a.member _ _ (sym c.withdraw_answer-number.ensures) c.if-number-eq0.false)
+    (ap (λ (legs : Legs). record { answer = 0; book = with_legs legs a.self }) c.set_state.ensures ∙ done_as _ _ _ _ (zero_by c.may_withdraw.ensures c.in_default.is))
     (withdraw_valid _ c.requires a.leg a.member)

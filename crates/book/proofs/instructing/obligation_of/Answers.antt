@@ -7,4 +7,4 @@ use Rattle.book.proofs.instructing.obligation_of.Goals as goal
 
 pub returns : goal.returns
 unfolding obligation_of
-returns c = let a = c.args in c.new.ensures ∙ ap₂ (λ (d r : Leg). new_obligation (record { seller = d.member; buyer = r.member; quantity = a.new.quantity; amount = d.amount; day = a.new.day })) c.delivering-seller.ensures c.receiving-buyer.ensures
+returns c = let a = c.args in c.new.ensures ∙ ap₂ (λ (d r : Leg). new_obligation (record { seller = d.member; buyer = r.member; quantity = a.new.quantity; amount = d.amount; day = a.new.day })) c.delivering-seller.ensures c.receiving.ensures

@@ -1,18 +1,13 @@
 -- `has_row` meets its contract.
-use mathlib.Core.Path.{◌≡◌, sym, ap₂, ◌∙◌}
-use lib.Dec.{ltb}
-use lib.ListN.{length}
-use borrow.Author.Rules.{rules}
-use Rattle.basics.proofs.Cases.{length_mapped}
-use Rattle.rates.specs.Rows.{most_rows}
-use Rattle.rates.proofs.Placing.{holds_by_place, listed_length}
+use Rattle.std.proofs.Common.{rules, tests, ◌∙◌, sym, nat_eq}
+use Rattle.std.proofs.lemmas.Iterator.{YieldsList-from_slice}
+use Rattle.std.proofs.lemmas.Iterator.Search.{any_from_yields_List}
+use Rattle.rates.specs.Rows.{start_of, listed_rates}
+use Rattle.rates.proofs.Searching.{holds_any}
 use Rattle.rates.proofs.Rates.has_row.Goals as goal
-use Rattle.rates.proofs.Rates.has_row.Goals.{After-place_of}
-
-sized : (c : After-place_of) → length c.args.self.rows ≡ most_rows
-sized c = search (length_mapped, rules)
 
 pub returns : goal.returns
 returns c =
-    let s = c.args.self in
-    ap₂ ltb c.place_of.ensures (sym (listed_length s (sized c.before) c.requires)) ∙ holds_by_place c.args.start _
+    let rows = listed_rates c.args.self.now in
+    any_from_yields_List (λ r. nat_eq (start_of r).0 c.args.start.0) _ _ _ c.any.ensures.ran (YieldsList-from_slice rows (cc)) (λ x b q k. search (rules, tests))
+    ∙ sym (holds_any c.args.start rows)

@@ -17,11 +17,11 @@ use Rattle.reprint.proofs.LastClose.of.Goals as goal
 
 pub loop-i-init : goal.loop-i-init
 unfolding lines_read table_from
-loop-i-init c = (omega arith, refl)
+loop-i-init c = refl
 
-pub line_at-row-requires : goal.line_at-row-requires
+pub line_at-requires : goal.line_at-requires
 unfolding lines_read
-line_at-row-requires c =
+line_at-requires c =
     let h = c.requires in
     let ws = c.args.lines.now in
     let i = c.loop-i.i in
@@ -31,23 +31,17 @@ line_at-row-requires c =
           (every_at h.sound i (line_at ws 0) (omega (arith, more, read_length c.args.count ws))),
     )
 
-pub bounds-rows-i : goal.bounds-rows-i
-bounds-rows-i c = omega (arith, c.loop-i-test.true, c.requires.few)
-
 pub loop-i-preserved : goal.loop-i-preserved
 loop-i-preserved c =
     let ws = c.args.lines.now in
     let i = c.loop-i.i in
     let rows = c.loop-i.rows in
-    let more = c.loop-i-test.true in (
-      omega (arith, more),
-      ap (set rows i) c.line_at-row.ensures ∙ kept_more ws i rows (omega (arith, more, c.requires.few)) c.loop-i.invariant.1,
-    )
+    ap (set rows i) c.line_at.ensures ∙ kept_more ws i rows (omega (arith, c.loop-i-test.true, c.requires.few)) c.loop-i.invariant
 
 pub returns-clause-value : goal.returns-clause-value
 returns-clause-value c =
     let ws = c.args.lines.now in
     let count = c.args.count in
-    let all = le_antisymm c.loop-i.invariant.0 c.loop-i-test.false in
-    let rows = c.loop-i.invariant.1 ∙ ap (λ (n : ℕ). padded most_lines no_line (map kept_line (lines_read n ws))) all in
+    let all = le_antisymm c.loop-i.auto.i-end c.loop-i-test.false in
+    let rows = c.loop-i.invariant ∙ ap (λ (n : ℕ). padded most_lines no_line (map kept_line (lines_read n ws))) all in
     (λ i. record { rows = rows i; count = sym (read_length count ws) i })

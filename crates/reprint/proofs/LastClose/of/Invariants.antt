@@ -1,7 +1,5 @@
 -- `of` meets its contract. The loop's invariant: the first i lines are kept.
-use Prim.Native.Nat.{◌-◌, ◌≤◌}
-use mathlib.Core.List.{map}
-use mathlib.Core.Path.{◌≡◌}
+use Rattle.std.proofs.Common.{◌≡◌, map}
 use Rattle.basics.specs.Lists.{padded}
 use Rattle.ledger.specs.Lines.{most_lines}
 use Rattle.closing.specs.Lines.{lines_read}
@@ -9,7 +7,4 @@ use Rattle.reprint.specs.Kept.{kept_line, no_line}
 use Rattle.reprint.proofs.LastClose.of.Given as goal
 
 abbrev pub invariant-loop-i : goal.invariant-loop-i
-invariant-loop-i l = (l.i ≤ l.count) × (l.rows ≡ padded most_lines no_line (map kept_line (lines_read l.i l.lines)))
-
-abbrev pub decreases-loop-i : goal.decreases-loop-i
-decreases-loop-i l = l.count - l.i
+invariant-loop-i l = l.rows ≡ padded most_lines no_line (map kept_line (lines_read l.i l.lines))

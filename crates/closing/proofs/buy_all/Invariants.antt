@@ -1,9 +1,0 @@
--- `buy_all` meets its contract.
-use lib.ListN.{take}
-use Rattle.closing.specs.Stages.{bought_all}
-use Rattle.closing.specs.Lines.{Wrote}
-use Rattle.closing.proofs.buy_all.Given as goal
-
-abbrev pub invariant-loop-from : goal.invariant-loop-from
-invariant-loop-from l =
-    Wrote l.initial.s.count l.initial.lines l.s l.lines (bought_all l.number (take l.from-index l.given) l.initial.s.obligation)

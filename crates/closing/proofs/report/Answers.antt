@@ -1,6 +1,0 @@
--- `report` meets its contract.
-use Rattle.closing.proofs.Lines.{wrote_one}
-use Rattle.closing.proofs.report.Goals as goal
-
-pub returns : goal.returns
-returns c = wrote_one _ _ _ _ _ c.put_line.ensures
