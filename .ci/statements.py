@@ -28,7 +28,7 @@ CONTRACTS = {
 }
 # Our crates. A path of the toolchain's library has the same form, with the name of a library in the crate's place.
 OWN = {path.name for path in (ROOT / "crates").iterdir()}
-FUNCTION = re.compile(r"( *)(pub )?fn (\w+)\(")
+FUNCTION = re.compile(r"( *)(pub )?fn (\w+)(?:<[^>]*>)?\(")
 DECLARATION = re.compile(r"( *)((?:(?:pub|abbrev|unfoldable|record|data) )*)([^\s:(]+) .*")
 
 

@@ -1,27 +1,19 @@
 -- How many bytes the parts of an answer have at most.
-use Prim.Native.Nat.{ℕ, zero, suc, ◌+◌, ◌*◌, ◌≤◌}
-use native.Mathlib.Numerals.{add-one}
-use native.Mathlib.Omega.{arith}
-use mathlib.Core.Path.{◌≡◌}
-use mathlib.Core.List.{List, ◌++◌}
-use lib.ListN.{length, get_or, take, drop, length-append, length-take}
+use Rattle.std.proofs.Common.{◌≡◌, ℕ, zero, suc, ◌+◌, ◌*◌, ◌≤◌, List, ◌++◌, ◌∷◌, [], length, take, drop, arith, length-append, length-take}
+use Rattle.std.proofs.Common.{add-one}
+use Rattle.std.specs.Prelude.{ℤ}
 use Rattle.writing.proofs.Digits.{digits_most, signed_most}
-use Rattle.writing.proofs.Writing.{spaced_most, text_most, line_most, labelled_most}
-use Rattle.answers.specs.Text.{most_numbered, numbers_text, balance_text, six_text, lines_text, kept_text, words_text}
-use Rattle.answers.specs.Told.{most_shown}
+use Rattle.writing.proofs.Writing.{spaced_most, text_most, line_most, labelled_most, no_call_most}
+use Rattle.answers.specs.declared.Reported.{Reported}
 use Rattle.answers.specs.declared.Answer.{Answer}
-
--- as many numbers as an answer may show
-pub numbers_most : (a : Answer) → a.count ≤ most_shown → length (numbers_text a) ≤ most_numbered
-unfolding numbers_text
-numbers_most a h =
-    omega (arith, line_most (take a.count a.numbers), length-take a.count a.numbers)
+use Rattle.answers.specs.declared.Answer.TheVariants.{Nothing, NoCall, Shown, Balance, Closed, Words}
+use Rattle.answers.specs.Told.{listed}
+use Rattle.answers.specs.Text.{most_answer, WithinLent, Tellable, balance_text, six_text, lines_text, kept_of, kept_text, closed_text, words_text, answer_text}
 
 -- an answer number and signed cents
-pub balance_most : (a : Answer) → length (balance_text a) ≤ 43
+pub balance_most : (answer : ℕ) (cents : ℤ) → length (balance_text answer cents) ≤ 43
 unfolding balance_text
-balance_most a =
-    simp length-append (omega (arith, digits_most (get_or a.numbers 0 0), signed_most a.cents))
+balance_most answer cents = simp length-append (omega (arith, digits_most answer, signed_most cents))
 
 -- a line of a Close
 pub six_most : (ws : List ℕ) → length (six_text (take 6 ws)) ≤ 129
@@ -51,15 +43,40 @@ pub kept_most : (n : ℕ) → length (kept_text n) ≤ 28
 unfolding kept_text
 kept_most n = labelled_most _ n
 
--- numbers and the words that were lent: at most 21 bytes for each word, and as many as a line of numbers has
-pub words_most : (a : Answer) (words : List ℕ) → a.count ≤ most_shown → length (words_text a words) ≤ 21 * a.lent + most_numbered
+-- numbers and the words that were lent: at most 21 bytes for each
+pub words_most : (shown words : List ℕ) → length (words_text shown words) ≤ 21 * length shown + 21 * length words + 1
 unfolding words_text
-words_most a words h =
+words_most shown words = simp length-append (omega (arith, text_most shown, spaced_most words))
+
+-- the answer to a Close or an Again fits its room
+closed_most : (r : Reported) (words : List ℕ) → WithinLent r words → length (closed_text r words) ≤ most_answer
+unfolding closed_text
+closed_most r words t =
     simp length-append
     (omega (
       arith,
-      text_most (take a.count a.numbers),
-      length-take a.count a.numbers,
-      spaced_most (take a.lent words),
-      length-take a.lent words,
+      t.lines,
+      t.lent.few,
+      line_most (r.answer ∷ r.lines ∷ []),
+      lines_most words r.lines,
+      kept_most (kept_of r.fill (drop (6 * r.lines) (take r.lent words))),
     ))
+
+-- every answer that can be written fits its room
+pub answer_most : (a : Answer) (line : ℕ) (words : List ℕ) → Tellable a words → length (answer_text a line words) ≤ most_answer
+unfolding answer_text
+answer_most Nothing line words t = omega arith
+answer_most NoCall line words t = omega (arith, no_call_most line)
+answer_most (Shown numbers) line words t =
+    omega (arith, line_most (listed numbers), length-take numbers.count numbers.places, t)
+answer_most (Balance answer cents) line words t = omega (arith, balance_most answer cents)
+answer_most (Closed r) line words t = closed_most r words t
+answer_most (Words numbers lent) line words t =
+    omega (
+      arith,
+      words_most (listed numbers) (take lent words),
+      length-take numbers.count numbers.places,
+      length-take lent words,
+      t.0,
+      t.1.few,
+    )

@@ -1,12 +1,13 @@
 -- How an answer is written (docs/JOURNAL.md, Lines out).
-use Rattle.std.specs.Prelude.{ℕ, zero, suc, ◌+◌, ◌*◌, ◌≤◌, ◌≡◌, List, [], ◌∷◌, ◌++◌, map, eqb, length, get_or, take, drop}
+use Rattle.std.specs.Prelude.{ℕ, zero, suc, ◌+◌, ◌*◌, ◌≤◌, List, [], ◌∷◌, ◌++◌, map, eqb, length, take, drop, ℤ}
 use Rattle.basics.specs.Choice.{pick}
 use Rattle.writing.specs.Digits.{digits_of, signed_of}
 use Rattle.writing.specs.Words.{space, spaced}
 use Rattle.writing.specs.Answers.{line_feed, text_of, answer_of, labelled, no_call_of}
-use Rattle.answers.specs.declared.Form.{Form}
+use Rattle.answers.specs.declared.Reported.{Reported}
 use Rattle.answers.specs.declared.Answer.{Answer}
-use Rattle.answers.specs.Told.{most_shown}
+use Rattle.answers.specs.declared.Answer.TheVariants.{Nothing, NoCall, Shown, Balance, Closed, Words}
+use Rattle.answers.specs.Told.{most_shown, listed}
 
 -- the most words that are lent to a call: 4,096
 abbrev pub most_lent : ℕ
@@ -16,26 +17,29 @@ most_lent = 4_096
 abbrev pub most_answer : ℕ
 most_answer = 22 * most_lent + 100
 
--- the most bytes of a line of numbers: 21 for each, and a line feed
-abbrev pub most_numbered : ℕ
-most_numbered = 21 * most_shown + 1
+-- words were lent: at most 4,096, and no more than there are
+pub record Lent (n : ℕ) (words : List ℕ) : Type 0 where
+  pub few : n ≤ most_lent
+  pub within : n ≤ length words
 
--- An answer can be written: it shows at most as many numbers as there may be, at most 4,096 words were lent, and its
+-- the lines of a Close or an Again are within the words that were lent
+pub record WithinLent (r : Reported) (words : List ℕ) : Type 0 where
+  pub lent : Lent r.lent words
+  pub lines : 6 * r.lines ≤ r.lent
+
+-- An answer can be written: it shows at most as many numbers as there may be, the words that it shows were lent, and its
 -- lines are within these words.
-pub record Tellable (a : Answer) (words : List ℕ) : Type 0 where
-  pub few : a.count ≤ most_shown
-  pub whole : length a.numbers ≡ most_shown
-  pub lends : a.lent ≤ most_lent
-  pub within : a.lent ≤ length words
-  pub lines : 6 * a.lines ≤ a.lent
-
--- the text of an answer of numbers: those that are shown, and a line feed
-unfoldable pub numbers_text : Answer → List ℕ
-numbers_text a = answer_of (take a.count a.numbers)
+abbrev pub Tellable : Answer → List ℕ → Type 0
+Tellable Nothing words = Unit {0}
+Tellable NoCall words = Unit {0}
+Tellable (Shown numbers) words = numbers.count ≤ most_shown
+Tellable (Balance answer cents) words = Unit {0}
+Tellable (Closed r) words = WithinLent r words
+Tellable (Words numbers lent) words = (numbers.count ≤ most_shown) × Lent lent words
 
 -- the text of the answer to an Account: the answer number, signed cents, and a line feed
-unfoldable pub balance_text : Answer → List ℕ
-balance_text a = digits_of (get_or a.numbers 0 0) ++ space ∷ signed_of a.cents ++ line_feed ∷ []
+unfoldable pub balance_text : ℕ → ℤ → List ℕ
+balance_text answer cents = digits_of answer ++ space ∷ signed_of cents ++ line_feed ∷ []
 
 -- the text of a line of a Close or an Again: two spaces, six words, and a line feed
 unfoldable pub six_text : List ℕ → List ℕ
@@ -57,27 +61,22 @@ kept_text n = labelled (space ∷ space ∷ 107 ∷ 101 ∷ 112 ∷ 116 ∷ spac
 
 -- the text of the answer to a Close or an Again: answer number and number of lines, the lines, and how many words after
 -- them are kept
-unfoldable pub closed_text : Answer → List ℕ → List ℕ
-closed_text a words =
-    numbers_text a
-    ++ lines_text words a.lines
-    ++ kept_text (kept_of a.fill (drop (6 * a.lines) (take a.lent words)))
+unfoldable pub closed_text : Reported → List ℕ → List ℕ
+closed_text r words =
+    answer_of (r.answer ∷ r.lines ∷ [])
+    ++ lines_text words r.lines
+    ++ kept_text (kept_of r.fill (drop (6 * r.lines) (take r.lent words)))
 
 -- the text of the answer to a Month or a Target: the numbers that are shown, and on the same line the words that were
 -- lent
-unfoldable pub words_text : Answer → List ℕ → List ℕ
-words_text a words =
-    text_of (take a.count a.numbers) ++ spaced (map digits_of (take a.lent words)) ++ line_feed ∷ []
+unfoldable pub words_text : List ℕ → List ℕ → List ℕ
+words_text shown words = text_of shown ++ spaced (map digits_of words) ++ line_feed ∷ []
 
--- the text of an answer in each form
-unfoldable pub text_in : Form → Answer → ℕ → List ℕ → List ℕ
-text_in Form.Nothing a line words = []
-text_in Form.NoCall a line words = no_call_of line
-text_in Form.Numbers a line words = numbers_text a
-text_in Form.Balance a line words = balance_text a
-text_in Form.Closed a line words = closed_text a words
-text_in Form.Words a line words = words_text a words
-
--- the text of the answer to the line with this number
+-- the text of the answer to the line with this number, given the words as the line left them
 unfoldable pub answer_text : Answer → ℕ → List ℕ → List ℕ
-answer_text a line words = text_in a.form a line words
+answer_text Nothing line words = []
+answer_text NoCall line words = no_call_of line
+answer_text (Shown numbers) line words = answer_of (listed numbers)
+answer_text (Balance answer cents) line words = balance_text answer cents
+answer_text (Closed r) line words = closed_text r words
+answer_text (Words numbers lent) line words = words_text (listed numbers) (take lent words)

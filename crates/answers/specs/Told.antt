@@ -1,50 +1,43 @@
 -- The answers to the lines of a journal, each in its form (docs/JOURNAL.md, Lines out).
-use Rattle.std.specs.Prelude.{ℕ, List, [], ◌∷◌, length, replicate, ℤ, pos}
-use Rattle.std.proofs.lemmas.List.Edits.{sets}
-use Rattle.answers.specs.declared.Form.{Form}
+use Rattle.std.specs.Prelude.{ℕ, List, ℤ, length, take}
+use Rattle.basics.specs.Lists.{padded}
+use Rattle.answers.specs.declared.Numbers.{Numbers}
 use Rattle.answers.specs.declared.Answer.{Answer}
+use Rattle.answers.specs.declared.Answer.TheVariants.{Nothing, NoCall, Shown, Balance, Closed, Words}
 
 -- the most numbers that an answer shows: those of a Status
 abbrev pub most_shown : ℕ
 most_shown = 7
 
--- An answer by its parts. The numbers that it shows are in the first of its places, and the others hold 0.
-abbrev told_with : Form → List ℕ → ℤ → ℕ → ℕ → ℕ → Answer
-told_with form shown cents lines lent fill = record {
-  form = form;
-  numbers = sets (replicate most_shown 0) 0 shown;
-  count = length shown;
-  cents = cents;
-  lines = lines;
-  lent = lent;
-  fill = fill;
-}
+-- numbers in the first of their places, of which the others hold 0
+abbrev pub numbers_of : List ℕ → Numbers
+numbers_of shown = record { places = padded most_shown 0 shown; count = length shown }
 
--- an answer in a form that shows only numbers
-abbrev pub told : Form → List ℕ → Answer
-told form shown = told_with form shown (pos 0) 0 0 0
+-- the numbers that are shown
+abbrev pub listed : Numbers → List ℕ
+listed n = take n.count n.places
 
 -- no answer, as to a comment
 unfoldable pub nothing : Answer
-nothing = told Form.Nothing []
+nothing = Nothing
 
 -- the answer to a line that is no call
 unfoldable pub no_call : Answer
-no_call = told Form.NoCall []
+no_call = NoCall
 
 -- an answer of numbers: an answer number and results
 unfoldable pub numbers_told : List ℕ → Answer
-numbers_told shown = told Form.Numbers shown
+numbers_told shown = Shown (numbers_of shown)
 
 -- the answer to an Account: an answer number and signed cents
 unfoldable pub balance_told : ℕ → ℤ → Answer
-balance_told answer cents = told_with Form.Balance (answer ∷ []) cents 0 0 0
+balance_told answer cents = Balance answer cents
 
 -- the answer to a Close or an Again: an answer number, how many lines there are, how many words were lent, and the
 -- value with which they were filled
 unfoldable pub closed_told : ℕ → ℕ → ℕ → ℕ → Answer
-closed_told answer lines lent fill = told_with Form.Closed (answer ∷ lines ∷ []) (pos 0) lines lent fill
+closed_told answer lines lent fill = Closed (record { answer = answer; lines = lines; lent = lent; fill = fill })
 
 -- the answer to a Month or a Target: an answer number and results, and how many words were lent
 unfoldable pub words_told : List ℕ → ℕ → Answer
-words_told shown lent = told_with Form.Words shown (pos 0) 0 lent 0
+words_told shown lent = Words (numbers_of shown) lent

@@ -1,30 +1,12 @@
 // The answers to the lines of a journal, and how each is written as text.
 #![tactic(auto)]
 
-ghost use Rattle.std.specs.Prelude.{◌+◌, ◌*◌, ◌≤◌, ◌≡◌, length, take, drop};
-ghost use Rattle.writing.specs.Answers.{Wrote};
-ghost use Rattle.answers.specs.Told.{most_shown, told, nothing, no_call, numbers_told, balance_told, closed_told, words_told};
-ghost use Rattle.answers.specs.Text.{most_numbered, most_answer, Tellable, numbers_text, balance_text, six_text, lines_text, kept_of};
+ghost use Rattle.std.specs.Prelude.{◌+◌, ◌*◌, ◌<◌, ◌≤◌, ◌≡◌, ◌++◌, length, take, drop};
+ghost use Rattle.answers.specs.Told.{most_shown, numbers_of, listed, nothing, no_call, numbers_told, balance_told, closed_told, words_told};
+ghost use Rattle.answers.specs.Text.{most_answer, Tellable, WithinLent, balance_text, six_text, lines_text, kept_of};
 ghost use Rattle.answers.specs.Text.{kept_text, closed_text, words_text, answer_text};
 
-use writing::{LINE_FEED, SPACE};
-
-// What the answer to a line looks like.
-#[derive(Clone, Copy)]
-pub enum Form {
-    // There is no answer, as to a comment.
-    Nothing,
-    // The line is no call.
-    NoCall,
-    // An answer number and results.
-    Numbers,
-    // An answer number and signed cents.
-    Balance,
-    // An answer number, how many lines there are, the lines, and how many words are kept.
-    Closed,
-    // An answer number and results, and on the same line the words that were lent.
-    Words,
-}
+use writing::{Output, SPACE};
 
 // The most bytes of an answer: 22 for each of the most words that are lent, and 100 more.
 pub const MOST_ANSWER: usize = 90_212;
@@ -32,211 +14,204 @@ pub const MOST_ANSWER: usize = 90_212;
 // The most numbers that an answer shows: those of a Status.
 pub const MOST_SHOWN: usize = 7;
 
-// The answer to a line. It has a form, numbers of which the first `count` are shown, and signed cents. Where words were
-// lent, it also says how many of them there are. For a Close or an Again it says how many lines of six words stand in
-// them, and with what value they were filled.
+// The numbers that an answer shows. They have no model that hides the places, because the check does not cover the loop
+// of `settle` if it copies a value with a model.
 #[derive(Clone, Copy)]
-pub struct Answer {
-    pub form: Form,
-    pub numbers: [u64; MOST_SHOWN],
+pub struct Numbers {
+    pub places: [u64; MOST_SHOWN],
     pub count: usize,
-    pub cents: i64,
+}
+
+impl Numbers {
+    fn of(shown: &[u64]) -> Numbers
+        requires { length shown.now ≤ most_shown }
+        ensures { result ≡ numbers_of shown.now }
+    {
+        let count = shown.len();
+        let mut places = [0; MOST_SHOWN];
+        places[..count].copy_from_slice(shown);
+        Numbers { places, count }
+    }
+
+    fn listed(&self) -> &[u64]
+        requires { self.now.count ≤ most_shown }
+        ensures { result.now ≡ listed self.now }
+    {
+        &self.places[..self.count]
+    }
+}
+
+// What a Close or an Again answers: its answer number, how many lines of six words stand in the words that were lent,
+// how many words were lent, and with what value they were filled.
+#[derive(Clone, Copy)]
+pub struct Reported {
+    pub answer: u64,
     pub lines: usize,
     pub lent: usize,
     pub fill: u64,
 }
 
-impl Answer {
-    // An answer in this form that shows these numbers.
-    fn new(form: Form, shown: &[u64]) -> Answer
-        requires { length shown.now ≤ most_shown }
-        ensures { result ≡ told form shown.now }
-    {
-        let mut numbers = [0; MOST_SHOWN];
-        let mut count = 0;
-        while count < shown.len() {
-            numbers[count] = shown[count];
-            count += 1;
-        }
-        Answer {
-            form: form,
-            numbers: numbers,
-            count: count,
-            cents: 0,
-            lines: 0,
-            lent: 0,
-            fill: 0,
-        }
-    }
+// The answer to a line.
+#[derive(Clone, Copy)]
+pub enum Answer {
+    // There is no answer, as to a comment.
+    Nothing,
+    // The line is no call.
+    NoCall,
+    // An answer number and results.
+    Shown(Numbers),
+    // An answer number and signed cents.
+    Balance(u64, i64),
+    // An answer number, how many lines there are, the lines, and how many words are kept.
+    Closed(Reported),
+    // An answer number and results, and on the same line the words that were lent, of which there are this many.
+    Words(Numbers, usize),
+}
 
+impl Answer {
     // No answer.
+    #[tactic(auto, unfolding(crate::specs::Told::nothing))]
     pub fn nothing() -> Answer
         ensures { result ≡ nothing }
     {
-        let none = [0u64; 0];
-        Answer::new(Form::Nothing, &none)
+        Answer::Nothing
     }
 
     // The answer to a line that is no call.
+    #[tactic(auto, unfolding(crate::specs::Told::no_call))]
     pub fn no_call() -> Answer
         ensures { result ≡ no_call }
     {
-        let none = [0u64; 0];
-        Answer::new(Form::NoCall, &none)
+        Answer::NoCall
     }
 
     // An answer number and results.
+    #[tactic(auto, unfolding(crate::specs::Told::numbers_told))]
     pub fn numbers(shown: &[u64]) -> Answer
         requires { length shown.now ≤ most_shown }
         ensures { result ≡ numbers_told shown.now }
     {
-        Answer::new(Form::Numbers, shown)
+        Answer::Shown(Numbers::of(shown))
     }
 
     // An answer number and signed cents.
+    #[tactic(auto, unfolding(crate::specs::Told::balance_told))]
     pub fn balance(answer: u64, cents: i64) -> Answer
         ensures { result ≡ balance_told answer cents }
     {
-        let shown = [answer];
-        let mut made = Answer::new(Form::Balance, &shown);
-        made.cents = cents;
-        made
+        Answer::Balance(answer, cents)
     }
 
     // An answer number, how many lines there are, how many words were lent for them, and with what value these were
     // filled.
+    #[tactic(auto, unfolding(crate::specs::Told::closed_told))]
     pub fn closed(answer: u64, lines: usize, lent: usize, fill: u64) -> Answer
         ensures { result ≡ closed_told answer lines lent fill }
     {
-        let shown = [answer, lines as u64];
-        let mut made = Answer::new(Form::Closed, &shown);
-        made.lines = lines;
-        made.lent = lent;
-        made.fill = fill;
-        made
+        Answer::Closed(Reported {
+            answer,
+            lines,
+            lent,
+            fill,
+        })
     }
 
     // An answer number and results, and how many words were lent.
+    #[tactic(auto, unfolding(crate::specs::Told::words_told))]
     pub fn with_words(shown: &[u64], lent: usize) -> Answer
         requires { length shown.now ≤ most_shown }
         ensures { result ≡ words_told shown.now lent }
     {
-        let mut made = Answer::new(Form::Words, shown);
-        made.lent = lent;
-        made
+        Answer::Words(Numbers::of(shown), lent)
     }
 
-    // Writes the numbers of an answer, and a line feed.
-    fn tell_numbers(self, out: &mut [u8], at: usize) -> usize
-        requires { (self.count ≤ most_shown) × (at + most_numbered ≤ length out.old) }
-        ensures { Wrote (numbers_text self) out.old at out.new result }
+    // Writes the answer to a line. The number of the line is only needed if the line is no call.
+    #[tactic(auto, unfolding(crate::specs::Text::answer_text))]
+    pub fn tell<const N: usize>(&self, line: u64, words: &[u64], out: &mut Output<N>)
+        requires { (Tellable self.now words.now) × (length out.old + most_answer ≤ N) }
+        ensures { out.new ≡ out.old ++ answer_text self.now line words.now }
     {
-        let numbers = self.numbers;
-        let count = self.count;
-        writing::write_answer(out, at, &numbers[..count])
-    }
-
-    // Writes an answer number and signed cents.
-    fn tell_balance(self, out: &mut [u8], at: usize) -> usize
-        requires { at + 43 ≤ length out.old }
-        ensures { Wrote (balance_text self) out.old at out.new result }
-    {
-        let numbers = self.numbers;
-        let number = writing::write_number(out, at, numbers[0]);
-        out[number] = SPACE;
-        let end = writing::write_signed(out, number + 1, self.cents);
-        out[end] = LINE_FEED;
-        end + 1
-    }
-
-    // Writes the answer to a Close or an Again: its numbers, its lines, and how many words are kept.
-    fn tell_closed(self, words: &[u64], out: &mut [u8], at: usize) -> usize
-        requires { (Tellable self words.now) × (at + most_answer ≤ length out.old) }
-        ensures { Wrote (closed_text self words.now) out.old at out.new result }
-    {
-        let lines = self.lines;
-        let lent = self.lent;
-        let head = self.tell_numbers(out, at);
-        let end = tell_lines(words, lines, out, head);
-        tell_kept(kept_of(words, 6 * lines, lent, self.fill), out, end)
-    }
-
-    // Writes the numbers of an answer, and on the same line the words that were lent, as the call left them.
-    fn tell_words(self, words: &[u64], out: &mut [u8], at: usize) -> usize
-        requires { (Tellable self words.now) × (at + most_answer ≤ length out.old) }
-        ensures { Wrote (words_text self words.now) out.old at out.new result }
-    {
-        let numbers = self.numbers;
-        let count = self.count;
-        let lent = self.lent;
-        let next = writing::write_numbers(out, at, &numbers[..count]);
-        let end = writing::write_further(out, next, &words[..lent]);
-        out[end] = LINE_FEED;
-        end + 1
-    }
-
-    // Writes the answer to a line at a place of the output, and answers the next place. The number of the line is only
-    // needed if the line is no call.
-    pub fn tell(self, line: u64, words: &[u64], out: &mut [u8], at: usize) -> usize
-        requires { (Tellable self words.now) × (at + most_answer ≤ length out.old) }
-        ensures { Wrote (answer_text self line words.now) out.old at out.new result }
-    {
-        let form = self.form;
-        match form {
-            Form::Nothing => at,
-            Form::NoCall => writing::write_no_call(out, at, line),
-            Form::Numbers => self.tell_numbers(out, at),
-            Form::Balance => self.tell_balance(out, at),
-            Form::Closed => self.tell_closed(words, out, at),
-            Form::Words => self.tell_words(words, out, at),
+        match self {
+            Answer::Nothing => {}
+            Answer::NoCall => out.no_call(line),
+            Answer::Shown(numbers) => out.answer(numbers.listed()),
+            Answer::Balance(answer, cents) => tell_balance(*answer, *cents, out),
+            Answer::Closed(reported) => tell_closed(*reported, words, out),
+            Answer::Words(numbers, lent) => tell_words(numbers.listed(), &words[..*lent], out),
         }
     }
+}
+
+// Writes an answer number and signed cents.
+#[tactic(auto, unfolding(crate::specs::Text::balance_text))]
+fn tell_balance<const N: usize>(answer: u64, cents: i64, out: &mut Output<N>)
+    requires { length out.old + 43 ≤ N }
+    ensures { out.new ≡ out.old ++ balance_text answer cents }
+{
+    out.number(answer);
+    out.byte(SPACE);
+    out.signed(cents);
+    out.line_feed();
+}
+
+// Writes the answer to a Close or an Again: its answer number and number of lines, the lines, and how many words are
+// kept.
+fn tell_closed<const N: usize>(reported: Reported, words: &[u64], out: &mut Output<N>)
+    requires { (WithinLent reported words.now) × (length out.old + most_answer ≤ N) }
+    ensures { out.new ≡ out.old ++ closed_text reported words.now }
+{
+    let lines = reported.lines;
+    let shown = [reported.answer, lines as u64];
+    out.answer(&shown);
+    tell_lines(words, lines, out);
+    let lent = &words[..reported.lent];
+    tell_kept(kept_of(&lent[6 * lines..], reported.fill), out);
+}
+
+// Writes numbers, and on the same line the words that were lent, as the call left them.
+#[tactic(auto, unfolding(crate::specs::Text::words_text))]
+fn tell_words<const N: usize>(shown: &[u64], words: &[u64], out: &mut Output<N>)
+    requires { length out.old + 21 * length shown.now + 21 * length words.now < N }
+    ensures { out.new ≡ out.old ++ words_text shown.now words.now }
+{
+    out.numbers(shown);
+    out.further(words);
+    out.line_feed();
 }
 
 // Writes a line of a Close or an Again: six words, with two spaces in front.
-fn tell_six(words: &[u64], from: usize, out: &mut [u8], at: usize) -> usize
-    requires { (from + 6 ≤ length words.now) × (at + 129 ≤ length out.old) }
-    ensures { Wrote (six_text (take 6 (drop from words.now))) out.old at out.new result }
+#[tactic(auto, unfolding(crate::specs::Text::six_text))]
+fn tell_six<const N: usize>(six: &[u64], out: &mut Output<N>)
+    requires { (length six.now ≡ 6) × (length out.old + 129 ≤ N) }
+    ensures { out.new ≡ out.old ++ six_text six.now }
 {
-    out[at] = SPACE;
-    out[at + 1] = SPACE;
-    writing::write_answer(out, at + 2, &words[from..from + 6])
+    out.bytes(b"  ");
+    out.answer(six);
 }
 
 // Writes the lines of a Close or an Again.
-fn tell_lines(words: &[u64], count: usize, out: &mut [u8], at: usize) -> usize
-    requires { (6 * count ≤ length words.now) × (at + 129 * count ≤ length out.old) }
-    ensures { Wrote (lines_text words.now count) out.old at out.new result }
+fn tell_lines<const N: usize>(words: &[u64], count: usize, out: &mut Output<N>)
+    requires { (6 * count ≤ length words.now) × (length out.old + 129 * count ≤ N) }
+    ensures { out.new ≡ out.old ++ lines_text words.now count }
 {
-    let mut end = at;
-    let mut k = 0;
-    while k < count {
-        end = tell_six(words, 6 * k, out, end);
-        k += 1;
+    for k in 0..count {
+        tell_six(&words[6 * k..6 * k + 6], out);
     }
-    end
 }
 
-// How many words from one place up to another still have the value that they were filled with.
-fn kept_of(words: &[u64], from: usize, to: usize, fill: u64) -> u64
-    requires { (from ≤ to) × (to ≤ length words.now) }
-    ensures { result ≡ kept_of fill (drop from (take to words.now)) }
+// How many words still have the value that they were filled with.
+#[tactic(auto, using(crate::proofs::Kept::kept_counts))]
+fn kept_of(words: &[u64], fill: u64) -> usize
+    ensures { result ≡ kept_of fill words.now }
 {
-    let mut kept: u64 = 0;
-    let mut i = from;
-    while i < to {
-        if words[i] == fill {
-            kept += 1;
-        }
-        i += 1;
-    }
-    kept
+    words.iter().filter(|w| **w == fill).count()
 }
 
 // Writes how many words are kept, which comes after the lines.
-fn tell_kept(kept: u64, out: &mut [u8], at: usize) -> usize
-    requires { at + 28 ≤ length out.old }
-    ensures { Wrote (kept_text kept) out.old at out.new result }
+#[tactic(auto, unfolding(crate::specs::Text::kept_text))]
+fn tell_kept<const N: usize>(kept: usize, out: &mut Output<N>)
+    requires { length out.old + 28 ≤ N }
+    ensures { out.new ≡ out.old ++ kept_text kept }
 {
-    writing::write_labelled(out, at, b"  kept ", kept)
+    out.labelled(b"  kept ", kept as u64);
 }

@@ -1,33 +1,40 @@
 -- What is taken of the input, and which bytes of a line are held.
+use Rattle.std.proofs.Common.{inl, inr}
+use Rattle.std.proofs.lemmas.Bool.{cases_lt}
+use borrow.Rule.Slice.PartMut.{put_mid}
 use Prim.Native.Nat.{ℕ, ◌+◌, ◌-◌, ◌≤◌, ◌<◌, min}
 use native.Mathlib.Omega.{arith}
-use mathlib.Core.Path.{◌≡◌, sym, ap, ◌∙◌}
-use mathlib.Core.List.{List}
-use lib.ListN.{length, take, drop, length-take, length-drop}
-use lib.Seq.{sets, take-take, length-take-le}
+use mathlib.Core.Path.{◌≡◌, sym, ap, ap₂, ◌∙◌}
+use mathlib.Core.List.{List, ◌++◌, append_assoc}
+use lib.ListN.{length, take, drop, length-take}
+use lib.Seq.{sets, sets-eq, take-take, take_all, drop-drop, length-take-le}
 use borrow.Author.Tests.{lt-ltb, le-ltb}
 use Rattle.basics.specs.Lists.{between}
 use Rattle.basics.proofs.Stores.{sets_cut}
 use Rattle.basics.proofs.Fronts.{up_most, up_taken}
-use Rattle.writing.specs.Answers.{Wrote, line_feed}
+use Rattle.writing.specs.Answers.{line_feed}
 use Rattle.lines.specs.Input.{up_to_line_feed, ahead, ended_at, goes_on, held_with, taken_of}
 use Rattle.lines.specs.declared.Feed.{Feed}
 
 -- if the bytes do not all fit, the line is the same as if all were written and those past its end were dropped
-pub held_cut : (line part after : List ℕ) (held from to cut next : ℕ) → held ≤ length line → to ≤ length part
-    → cut ≡ from + (length line - held) → cut ≤ to → Wrote (between from cut part) line held after next
-    → (next ≡ min (length line) (held + (to - from))) × (after ≡ sets line held (between from to part))
-held_cut line part after held from to cut next h l c b w =
-    let n : ℕ = length line - held in
-    let e : cut - from ≡ n = omega arith in
-    let room : length (between from cut part) ≡ cut - from =
-    length-take-le (cut - from) (drop from part) (omega (arith, length-drop from part)) in (
-      omega (arith, w.place),
-      w.stands
-          ∙ ap (λ (k : ℕ). sets line held (take k (drop from part))) e
-          ∙ ap (sets line held) (sym (take-take n (to - from) (drop from part) (omega arith)))
-          ∙ sets_cut line held n (between from to part) (omega arith),
-    )
+held_fits : (line part : List ℕ) (held n : ℕ) → held ≤ length line → n ≡ min (length part) (length line - held)
+    → sets line held (take n part) ≡ sets line held part
+held_fits line part held n h e = elim (cases_lt (length line - held) (length part)) [
+  | inl cut ↦ sets_cut line held n part (omega arith)
+  | inr fits ↦ ap (sets line held) (take_all n part (omega arith))
+]
+
+-- so it is enough to put as many of them in their place as there is room for
+pub held_cut : (line part ys : List ℕ) (held n k : ℕ) → held ≤ length line → n ≡ min (length part) (length line - held)
+    → k ≡ n → ys ≡ take n part → put_mid held k line ys ≡ sets line held part
+held_cut line part ys held n k h e same copied =
+    let few : length (take n part) ≡ n = length-take-le n part (omega arith) in
+    ap₂ (λ (j : ℕ) (l : List ℕ). put_mid held j line l) same copied
+    ∙ sym (append_assoc (take held line) (take n part) (drop n (drop held line)))
+    ∙ ap (λ (l : List ℕ). take held line ++ take n part ++ l)
+    (drop-drop n held line ∙ ap (λ (j : ℕ). drop (held + j) line) (sym few))
+    ∙ sym (sets-eq (take n part) line held (omega (arith, few)))
+    ∙ held_fits line part held n h e
 
 -- `end` is the place where the bytes ahead end
 module _ (f : Feed) (part : List ℕ) (end : ℕ) (some : f.from ≤ f.to)

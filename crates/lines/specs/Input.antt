@@ -1,5 +1,6 @@
 -- The input, line by line: how far it has come, and what is taken from it.
-use Rattle.std.specs.Prelude.{ℕ, ◌+◌, min, Bool, true, false, List, leb, ltb, length}
+use Rattle.std.specs.Prelude.{ℕ, ◌+◌, min, Bool, List, leb, ltb, length, Some, None}
+use Rattle.std.specs.Option.{is_some, unwrap_or}
 use Rattle.basics.specs.Choice.{pick}
 use Rattle.basics.specs.Lists.{between, up_to}
 use Rattle.writing.specs.Answers.{line_feed}
@@ -38,12 +39,19 @@ dropped_from f = record { from = f.to; to = f.to; held = f.held; ended = f.ended
 unfoldable pub lines_of : Feed → ℕ
 lines_of f = pick (ltb 0 f.held) (one_more f.ended) f.ended
 
+-- whether the current line has ended with what was taken
+abbrev pub ends : Taken → Bool
+ends t = is_some t.line
+
+-- how many bytes of the line are held if it has ended
+abbrev pub size : Taken → ℕ
+size t = unwrap_or t.line 0
+
 -- What is taken if the current line ends at a place: the bytes after its line feed are taken next.
 unfoldable pub ended_at : ℕ → ℕ → Feed → Taken
 ended_at end size f = record {
   feed = record { from = end + 1; to = f.to; held = 0; ended = one_more f.ended };
-  ends = true;
-  size = size;
+  line = Some size;
 }
 
 -- What is taken if the current line has not ended: all bytes that were read are taken, and more of the line is still to
@@ -51,8 +59,7 @@ ended_at end size f = record {
 unfoldable pub goes_on : ℕ → Feed → Taken
 goes_on held f = record {
   feed = record { from = f.to; to = f.to; held = held; ended = f.ended };
-  ends = false;
-  size = 0;
+  line = None;
 }
 
 -- how many bytes of the current line are held after the bytes ahead were added, if there are this many places

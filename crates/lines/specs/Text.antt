@@ -5,7 +5,7 @@ use Rattle.basics.specs.Lists.{between}
 use Rattle.writing.specs.Answers.{line_feed}
 use Rattle.lines.specs.declared.Feed.{Feed}
 use Rattle.lines.specs.declared.Taken.{Taken}
-use Rattle.lines.specs.Input.{ahead}
+use Rattle.lines.specs.Input.{ahead, ends, size}
 
 -- a text so far: its lines that have ended, the latest first, and the bytes of the current line
 pub record Cut : Type 0 where
@@ -41,11 +41,11 @@ unread f part = between f.from f.to part
 
 -- the bytes of the text that are taken: those ahead, and the line feed if the line has ended
 abbrev pub taken_bytes : Feed → List ℕ → Taken → List ℕ
-taken_bytes f part t = ahead f part ++ pick t.ends (line_feed ∷ []) []
+taken_bytes f part t = ahead f part ++ pick (ends t) (line_feed ∷ []) []
 
 -- a text after bytes were taken: one more line if it has ended, and the bytes that are held
 abbrev pub cut_with : List (List ℕ) → Taken → List ℕ → Cut
 cut_with ended t line = record {
-  ended = pick t.ends (take t.size line ∷ ended) ended;
+  ended = pick (ends t) (take (size t) line ∷ ended) ended;
   rest = take t.feed.held line;
 }

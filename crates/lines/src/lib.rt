@@ -25,35 +25,29 @@ pub struct Feed {
 #[derive(Clone, Copy)]
 pub struct Taken {
     pub feed: Feed,
-    // Whether the current line has ended, and how many bytes of it are held if it has.
-    pub ends: bool,
-    pub size: usize,
+    // How many bytes are held of the current line, if it has ended.
+    pub line: Option<usize>,
 }
 
 // The number of lines after one more has ended. No journal has as many lines as a number of 64 bits can count, so it
 // does not matter that the count stops there.
+#[tactic(auto, unfolding(crate::specs::Input::one_more))]
 fn one_more(ended: u64) -> u64
     ensures { result ≡ one_more ended }
 {
-    if ended < u64::MAX {
-        return ended + 1;
-    }
-    ended
+    ended.saturating_add(1)
 }
 
 // Adds bytes to the current line, and answers how many bytes of it are held. Bytes that have no place are dropped,
 // because a line of that length is a comment or no call, whatever follows.
-fn hold(line: &mut [u8], held: usize, part: &[u8], from: usize, to: usize) -> usize
-    requires { (held ≤ length line.old) × (from ≤ to) × (to ≤ length part.now) }
-    ensures value { result ≡ min (length line.old) (held + (to - from)) }
-    ensures line_after { line.new ≡ sets line.old held (between from to part.now) }
+fn hold(line: &mut [u8], held: usize, part: &[u8]) -> usize
+    requires { held ≤ length line.old }
+    ensures value { result ≡ min (length line.old) (held + length part.now) }
+    ensures line_after { line.new ≡ sets line.old held part.now }
 {
-    let room = line.len() - held;
-    if to - from <= room {
-        return writing::write_bytes(line, held, &part[from..to]);
-    }
-    let cut = from + room;
-    writing::write_bytes(line, held, &part[from..cut])
+    let count = part.len().min(line.len() - held);
+    line[held..held + count].copy_from_slice(&part[..count]);
+    held + count
 }
 
 impl Feed {
@@ -70,6 +64,7 @@ impl Feed {
     }
 
     // Whether all bytes that were read are taken.
+    #[tactic(auto, unfolding(crate::specs::Input::used_up))]
     pub fn is_used_up(self) -> bool
         ensures { result ≡ used_up self }
     {
@@ -77,30 +72,30 @@ impl Feed {
     }
 
     // The feed after a read that brought `to` bytes.
+    #[tactic(auto, unfolding(crate::specs::Input::filled_to))]
     pub fn filled(self, to: usize) -> Feed
         ensures { result ≡ filled_to to self }
     {
         Feed {
             from: 0,
-            to: to,
-            held: self.held,
-            ended: self.ended,
+            to,
+            ..self
         }
     }
 
     // Drops the bytes that were read and not yet taken, because the run has failed.
+    #[tactic(auto, unfolding(crate::specs::Input::dropped_from))]
     pub fn dropped(self) -> Feed
         ensures { result ≡ dropped_from self }
     {
         Feed {
             from: self.to,
-            to: self.to,
-            held: self.held,
-            ended: self.ended,
+            ..self
         }
     }
 
     // How many lines the text has, once it is over. Bytes that are still held are a last line without its line feed.
+    #[tactic(auto, unfolding(crate::specs::Input::lines_of))]
     pub fn lines(self) -> u64
         ensures { result ≡ lines_of self }
     {
@@ -117,7 +112,7 @@ impl Feed {
         ensures line_after { line.new ≡ sets line.old self.held (ahead self part.now) }
     {
         let end = writing::place_of(LINE_FEED, part, self.from, self.to);
-        let held = hold(line, self.held, part, self.from, end);
+        let held = hold(line, self.held, &part[self.from..end]);
         if end < self.to {
             return Taken {
                 feed: Feed {
@@ -126,19 +121,16 @@ impl Feed {
                     held: 0,
                     ended: one_more(self.ended),
                 },
-                ends: true,
-                size: held,
+                line: Some(held),
             };
         }
         Taken {
             feed: Feed {
                 from: self.to,
-                to: self.to,
-                held: held,
-                ended: self.ended,
+                held,
+                ..self
             },
-            ends: false,
-            size: 0,
+            line: None,
         }
     }
 }

@@ -1,11 +1,10 @@
 -- What a line asks, given its name and its numbers.
 use Prim.Native.Nat.{ℕ, ◌≤◌}
 use native.Mathlib.Omega.{arith}
-use mathlib.Core.Path.{◌≡◌, sym, ap₂, ◌∙◌}
-use mathlib.Core.Bool.{true, false}
+use mathlib.Core.Path.{◌≡◌, refl, sym, ap₂, ◌∙◌}
+use mathlib.Core.Bool.{true}
 use mathlib.Core.List.{List}
 use lib.ListN.{length, take}
-use Rattle.basics.proofs.Cases.{never, pick_case}
 use Rattle.reading.specs.declared.Name.{Name}
 use Rattle.reading.specs.declared.Shape.{Shape}
 use Rattle.reading.specs.declared.Line.{Line}
@@ -14,6 +13,7 @@ use Rattle.reading.specs.Calls.{shape_right}
 use Rattle.reading.specs.Lines.{Understood}
 use Rattle.reading.proofs.Arguments.{days_listed, lent_listed, amounts_listed}
 use Rattle.lines.specs.declared.Taken.{Taken}
+use Rattle.std.specs.Prelude.{Some, None}
 use Rattle.settle.specs.declared.calls.Asked.{Asked}
 use Rattle.settle.specs.Asked.{nothing_asked, asked_call, asked_of, asks, noted, Listed}
 
@@ -35,31 +35,28 @@ call_listed name Shape.Amounts count ns h s =
     record { begins = omega (arith, l.0); ends = omega (arith, h); lends = l.2 }
 
 -- the numbers of a line that has ended are put into the buffer
-pub noted_line : (t : Taken) (line ns : List ℕ) {after : List ℕ} {l : Line} → t.ends ≡ true
-    → Understood (take t.size line) ns after l → after ≡ noted t line ns
+pub noted_line : (t : Taken) (n : ℕ) (line ns : List ℕ) {after : List ℕ} {l : Line} → t.line ≡ Some n
+    → Understood (take n line) ns after l → after ≡ noted t line ns
 unfolding noted
-noted_line t line ns e u = rw e u.numbers
+noted_line t n line ns e u = rw e u.numbers
 
 -- a line that has ended asks what was read from it
-pub asked_line : (t : Taken) (line ns after : List ℕ) {l : Line} (is : Line) → l ≡ is → t.ends ≡ true
-    → Understood (take t.size line) ns after l → asked_of is after ≡ asks t line ns
+pub asked_line : (t : Taken) (n : ℕ) (line ns after : List ℕ) {l : Line} (is : Line) → l ≡ is → t.line ≡ Some n
+    → Understood (take n line) ns after l → asked_of is after ≡ asks t line ns
 unfolding asks
-asked_line t line ns after is told e u =
-    pick_case (λ a. asked_of is after ≡ a) t.ends _ _
-    (λ f. ap₂ asked_of (sym told ∙ u.answer) (noted_line t line ns e u))
-    (λ f. absurd (never (sym f ∙ e)))
+asked_line t n line ns after is told e u = rw e (ap₂ asked_of (sym told ∙ u.answer) (noted_line (record { feed = t.feed; line = Some n }) n line ns refl u))
 
 -- a line that has ended and asks nothing: what it asks, what is in the buffer for numbers, and that it has no list
-pub nothing_asked_lem : (t : Taken) (line ns after : List ℕ) {l : Line} {r : Asked} (is : Line) → asked_of is after ≡ nothing_asked is
-    → r ≡ nothing_asked is → l ≡ is → t.ends ≡ true → Understood (take t.size line) ns after l
+pub nothing_asked_lem : (t : Taken) (n : ℕ) (line ns after : List ℕ) {l : Line} {r : Asked} (is : Line) → asked_of is after ≡ nothing_asked is
+    → r ≡ nothing_asked is → l ≡ is → t.line ≡ Some n → Understood (take n line) ns after l
     → (r ≡ asks t line ns) × ((after ≡ noted t line ns) × (Listed r after))
-nothing_asked_lem t line ns after is nothing made told e u = (
-  made ∙ sym nothing ∙ asked_line t line ns after is told e u,
-  (noted_line t line ns e u, rw made (nothing_listed is after)),
+nothing_asked_lem t n line ns after is nothing made told e u = (
+  made ∙ sym nothing ∙ asked_line t n line ns after is told e u,
+  (noted_line t n line ns e u, rw made (nothing_listed is after)),
 )
 
 -- a line that has not ended asks nothing, and the buffer for numbers stays as it was
-pub asked_not : (t : Taken) (line ns : List ℕ) → t.ends ≡ false
+pub asked_not : (t : Taken) (line ns : List ℕ) → t.line ≡ None
     → (nothing_asked Comment ≡ asks t line ns) × (ns ≡ noted t line ns)
 unfolding asks noted
 asked_not t line ns e = (rw e, rw e)

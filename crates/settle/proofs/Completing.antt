@@ -8,14 +8,14 @@ use mathlib.Core.Logic.{inl, inr}
 use mathlib.Core.List.{List, [], ◌∷◌, ◌++◌, append_assoc, append-nil}
 use lib.Dec.{ltb}
 use lib.IntN.{ℤ, pos, negsuc}
-use lib.ListN.{length, take, drop, length-map, length-take, length-append}
-use lib.Seq.{sets, sets-eq, length-sets, take_at, length-take-le}
+use lib.ListN.{length, take, length-map, length-take}
+use lib.Seq.{length-take-le}
 use borrow.Author.Tests.{ltb-true, ltb-false}
 use Rattle.basics.specs.Choice.{pick}
 use Rattle.basics.proofs.Fronts.{between_none}
 use Rattle.lines.specs.declared.Feed.{Feed}
 use Rattle.lines.specs.declared.Taken.{Taken}
-use Rattle.lines.specs.Input.{used_up, one_more, lines_of, taken_of}
+use Rattle.lines.specs.Input.{used_up, one_more, lines_of, taken_of, ends, size}
 use Rattle.lines.specs.Text.{Cut, uncut, with_bytes, lines_in, cut_to, unread}
 use Rattle.lines.proofs.Bounds.{taken_counts, taken_none}
 use Rattle.reading.specs.declared.Line.{Line}
@@ -24,7 +24,7 @@ use Rattle.reading.specs.declared.Name.{Name}
 use Rattle.reading.specs.declared.Shape.{Shape}
 use Rattle.answers.specs.declared.Answer.{Answer}
 use Rattle.answers.specs.Told.{nothing}
-use Rattle.answers.specs.Text.{answer_text, text_in}
+use Rattle.answers.specs.Text.{answer_text}
 use Rattle.book.specs.declared.Book.{Book}
 use Rattle.settle.specs.declared.calls.Asked.{Asked}
 use Rattle.settle.specs.declared.calls.Played.{Played}
@@ -56,20 +56,20 @@ going_failed e = let z : ◌≡◌ {A = ℕ} 0 1 = cc in omega arith
 
 -- ---- the input is over
 -- the system answered a read with 0, all that was read is used up, and no answer waits to be written
-record OverBy {f r : Flow} {places : ℕ} {part after : List ℕ} (d : FedOn f places part after r) : Type 0 where
+record OverBy {f r : Flow} {places : ℕ} {out part after waiting : List ℕ} (d : FedOn f places out part after r waiting) : Type 0 where
   answered : answered_by d ≡ pos 0 ∷ []
   used : used_up r.feed ≡ true
-  none : r.end ≡ 0
+  none : waiting ≡ []
 
 -- if the input is over after a read, the system answered the read with 0
 read_over : (f : Flow) (most : ℕ) (z : ℤ) → used_up f.feed ≡ true → (read_into f.feed (read_of z most)).course ≡ Over
-    → (z ≡ pos 0) × (used_up (read_into f.feed (read_of z most)).feed ≡ true) × ((read_into f.feed (read_of z most)).end ≡ 0)
+    → (z ≡ pos 0) × (used_up (read_into f.feed (read_of z most)).feed ≡ true)
 unfolding read_of
 read_over f most (negsuc n) u e = failed_over e
-read_over f most (pos zero) u e = (refl, u, refl)
+read_over f most (pos zero) u e = (refl, u)
 read_over f most (pos (suc n)) u e = going_over e
 
-over_by : {f r : Flow} {places : ℕ} {part after : List ℕ} (d : FedOn f places part after r) → f.course ≡ Going
+over_by : {f r : Flow} {places : ℕ} {out part after waiting : List ℕ} (d : FedOn f places out part after r waiting) → f.course ≡ Going
     → r.course ≡ Over → OverBy d
 unfolding answered_by
 over_by (ready u w e) g o = going_over (sym g ∙ o)
@@ -80,7 +80,7 @@ over_by {f} {r} {after = after} (fed u e on) g o =
     record {
       answered = ap (λ (z : ℤ). z ∷ []) c.0;
       used = ap (λ (x : Flow). used_up x.feed) on.read ∙ c.1;
-      none = ap (λ (x : Flow). x.end) on.read ∙ c.2;
+      none = refl;
     }
 over_by (unfed u e) g o = failed_over o
 
@@ -91,7 +91,7 @@ error_fails f most (negsuc n) h = absurd (h refl)
 error_fails f most (pos zero) h = refl
 error_fails f most (pos (suc n)) h = refl
 
-fails_not : {f r : Flow} {places : ℕ} {part after : List ℕ} (d : FedOn f places part after r) → (r.course ≡ Failed → ⊥) → fails_by d ≡ false
+fails_not : {f r : Flow} {places : ℕ} {out part after waiting : List ℕ} (d : FedOn f places out part after r waiting) → (r.course ≡ Failed → ⊥) → fails_by d ≡ false
 unfolding fails_by
 fails_not (ready u w e) h = refl
 fails_not (cleared u w e) h = refl
@@ -113,14 +113,14 @@ record Counts {first h : Held} {n : ℕ} (r : Reached first n h) : Type 0 where
   ended : h.flow.feed.ended ≡ min (length (played_in r)) most_turns
   few : length (played_in r) ≤ n
 
-more_counts : (ends : Bool) (x : List ℕ) (xs : List (List ℕ)) (was now n : ℕ) → was ≡ min (length xs) most_turns → length xs ≤ n
-    → now ≡ pick ends (one_more was) was
-    → (now ≡ min (length (pick ends (x ∷ xs) xs)) most_turns) × (length (pick ends (x ∷ xs) xs) ≤ suc n)
+more_counts : (ended : Bool) (x : List ℕ) (xs : List (List ℕ)) (was now n : ℕ) → was ≡ min (length xs) most_turns → length xs ≤ n
+    → now ≡ pick ended (one_more was) was
+    → (now ≡ min (length (pick ended (x ∷ xs) xs)) most_turns) × (length (pick ended (x ∷ xs) xs) ≤ suc n)
 unfolding one_more
 more_counts true x xs was now n e l c = (omega (arith, e, c), omega arith)
 more_counts false x xs was now n e l c = (omega (arith, e, c), omega arith)
 
-counts : {part line numbers words out : List ℕ} {h : Held} {n : ℕ} (r : Reached (begins part line numbers words out) n h) → Counts r
+counts : {part line numbers words : List ℕ} {places : ℕ} {h : Held} {n : ℕ} (r : Reached (begins part line numbers words places) n h) → Counts r
 unfolding played_in
 counts start = record { ended = omega arith; few = omega arith }
 counts (turn {n} {h} {after} r t) =
@@ -128,61 +128,35 @@ counts (turn {n} {h} {after} r t) =
     let kept = fed_kept t.feeds (reached_follows r).read in
     let took = ap (λ (x : Taken). x.feed.ended) t.takes.took
     ∙ taken_counts t.fed.feed after.part (length h.line)
-    ∙ ap₂ (λ (b : Bool) (k : ℕ). pick b (one_more k) k) (ap (λ (x : Taken). x.ends) (sym t.takes.took)) kept.ended in
-    let both = more_counts t.taken.ends (take t.taken.size after.line) (played_in r) h.flow.feed.ended t.taken.feed.ended n
+    ∙ ap₂ (λ (b : Bool) (k : ℕ). pick b (one_more k) k) (ap ends (sym t.takes.took)) kept.ended in
+    let both = more_counts (ends t.taken) (take (size t.taken) after.line) (played_in r) h.flow.feed.ended t.taken.feed.ended n
     before.ended before.few took in
     record { ended = ap (λ (f : Feed). f.ended) t.tells.next ∙ both.0; few = both.1 }
 
 -- ---- every answer is handed to a write
--- after bytes were written at a place, the output up to their end is what stood before that place, and then the bytes
-front_with : (out text : List ℕ) (at : ℕ) → at + length text ≤ length out → take (at + length text) (sets out at text) ≡ take at out ++ text
-front_with out text at h =
-    let size : length (take at out ++ text) ≡ at + length text =
-    length-append (take at out) text ∙ ap (λ (k : ℕ). k + length text) (length-take-le at out (omega arith)) in
-    ap (take (at + length text)) (sets-eq text out at h)
-    ∙ take_at (take at out ++ text) (drop (at + length text) out) (at + length text) size
-
 -- the bytes that were written in a turn, and those that still wait, are the ones that waited before it
-record Written (written out : List ℕ) (f r : Flow) : Type 0 where
-  all : written ++ take r.end out ≡ take f.end out
-
-written_none : (out : List ℕ) (f r : Flow) → r.end ≡ 0 → Written (take f.end out) out f r
-written_none out f r e = record { all = ap (λ (k : ℕ). take f.end out ++ take k out) e ∙ append-nil (take f.end out) }
-
-read_none : (f : Feed) (most : ℕ) (z : ℤ) → (read_into f (read_of z most)).end ≡ 0
-unfolding read_of
-read_none f most (negsuc n) = refl
-read_none f most (pos zero) = refl
-read_none f most (pos (suc n)) = refl
-
-written_by_lem : {f r : Flow} {places : ℕ} {part after : List ℕ} (out : List ℕ) (d : FedOn f places part after r) → Written (written_by out d) out f r
+written_all : {f r : Flow} {places : ℕ} {out part after waiting : List ℕ} (d : FedOn f places out part after r waiting)
+    → written_by d ++ waiting ≡ out
 unfolding written_by
-written_by_lem out (ready u w e) = record { all = refl }
-written_by_lem {f} {r} out (cleared u w e) = written_none out f r refl
-written_by_lem {f} {r} out (uncleared u w e) = written_none out f r refl
-written_by_lem {f} {r} {after = after} out (fed u e on) =
-    written_none out f r (ap (λ (x : Flow). x.end) on.read ∙ read_none f.feed (length after) on.got)
-written_by_lem {f} {r} out (unfed u e) = written_none out f r refl
+written_all (ready u w e) = refl
+written_all {out = out} (cleared u w e) = append-nil out
+written_all {out = out} (uncleared u w e) = append-nil out
+written_all {out = out} (fed u e on) = append-nil out
+written_all {out = out} (unfed u e) = append-nil out
 
 -- The bytes that were handed to writes and those that wait in the output are together the answers so far.
-pub told_all : {part line numbers words out : List ℕ} {h : Held} {n : ℕ} (r : Reached (begins part line numbers words out) n h)
-    → written_in r ++ take h.flow.end h.out ≡ answers_in r
+pub told_all : {part line numbers words : List ℕ} {places : ℕ} {h : Held} {n : ℕ} (r : Reached (begins part line numbers words places) n h)
+    → written_in r ++ h.out ≡ answers_in r
 unfolding written_in answers_in
 told_all start = refl
 told_all (turn {n} {h} {after} r t) =
     let text = answer_text t.answer t.taken.feed.ended after.words in
-    let w = t.tells.wrote in
-    let at = t.fed.end in
-    let done = written_by h.out t.feeds in
-    let size : length after.out ≡ length h.out = ap length w.stands ∙ length-sets h.out at text in
-    let room : at + length text ≤ length h.out = omega (arith, w.place, t.tells.fits, size) in
-    let now : take after.flow.end after.out ≡ take at h.out ++ text =
-    ap₂ take w.place w.stands ∙ front_with h.out text at room in
-    ap (λ (xs : List ℕ). (written_in r ++ done) ++ xs) now
-    ∙ sym (append_assoc (written_in r ++ done) (take at h.out) text)
+    let done = written_by t.feeds in
+    ap (λ (xs : List ℕ). (written_in r ++ done) ++ xs) t.tells.wrote
+    ∙ sym (append_assoc (written_in r ++ done) t.waiting text)
     ∙ ap (λ (xs : List ℕ). xs ++ text)
-    (append_assoc (written_in r) done (take at h.out)
-    ∙ ap (λ (xs : List ℕ). written_in r ++ xs) (written_by_lem h.out t.feeds).all
+    (append_assoc (written_in r) done t.waiting
+    ∙ ap (λ (xs : List ℕ). written_in r ++ xs) (written_all t.feeds)
     ∙ told_all r)
 
 -- ---- the last turn
@@ -207,9 +181,9 @@ module _ {first h after : Held} {n : ℕ} (r : Reached first n h) (t : Turn h af
   over_is = over_by t.feeds t.going (sym t.tells.same ∙ over)
 
   -- no line ends in the last turn, and nothing is left to take
-  none_ends : t.taken.ends ≡ false
+  none_ends : ends t.taken ≡ false
   none_ends =
-      ap (λ (x : Taken). x.ends) t.takes.took
+      ap ends t.takes.took
       ∙ (taken_none t.fed.feed after.part (length h.line) over_is.used).0
 
   none_left : unread after.flow.feed after.part ≡ []
@@ -221,18 +195,18 @@ module _ {first h after : Held} {n : ℕ} (r : Reached first n h) (t : Turn h af
 
   -- there is no answer in the last turn
   no_text : answer_text t.answer t.taken.feed.ended after.words ≡ []
-  unfolding asks answer_text text_in nothing
+  unfolding asks answer_text nothing
   no_text =
       let quiet : t.asked.line ≡ Comment = ap (λ (a : Asked). a.line) t.asking ∙ rw none_ends in
       let answer : t.answer ≡ nothing = passes t.gives quiet in
       ap (λ (a : Answer). answer_text a t.taken.feed.ended after.words) answer
 
-  none_waits : after.flow.end ≡ 0
-  none_waits = omega (arith, t.tells.wrote.place, ap length no_text, over_is.none)
+  none_waits : after.out ≡ []
+  none_waits = t.tells.wrote ∙ ap₂ ◌++◌ over_is.none no_text
 
 -- if no line ends in a turn, the lines that were played stay the same
-rest_same : (ends : Bool) (x : List ℕ) (xs : List (List ℕ)) → ends ≡ false → pick ends (x ∷ xs) xs ≡ xs
-rest_same ends x xs e = rw e
+rest_same : (ended : Bool) (x : List ℕ) (xs : List (List ℕ)) → ended ≡ false → pick ended (x ∷ xs) xs ≡ xs
+rest_same ended x xs e = rw e
 
 -- the number of lines is the number of those that have ended, and one more if bytes are left
 line_number : (ended held lines rest places : ℕ) → ended ≡ lines → lines < most_turns → 0 < places → held ≡ min places rest
@@ -246,7 +220,7 @@ line_number ended held lines rest places e few some h = by (ltb 0 held) refl (lt
     by false f false g = omega arith
 
 -- the lines are counted right if fewer were played than a run has turns at most
-counted : {part line numbers words out : List ℕ} {h : Held} {n : ℕ} (r : Reached (begins part line numbers words out) n h)
+counted : {part line numbers words : List ℕ} {places : ℕ} {h : Held} {n : ℕ} (r : Reached (begins part line numbers words places) n h)
     → length (played_in r) < most_turns → 0 < length h.line → held_text r ≡ cut_to (length h.line) (with_bytes uncut (read_in r))
     → lines_of h.flow.feed ≡ lines_in (with_bytes uncut (read_in r))
 unfolding lines_of lines_in one_more
@@ -267,7 +241,7 @@ counted {h = h} r few places lines =
     held
 
 -- The main law of this module: a run whose input is over is complete.
-pub over_complete : {part line numbers words out : List ℕ} {h : Held} {n : ℕ} (r : Reached (begins part line numbers words out) n h)
+pub over_complete : {part line numbers words : List ℕ} {places : ℕ} {h : Held} {n : ℕ} (r : Reached (begins part line numbers words places) n h)
     → n ≤ most_turns → 0 < length h.line → h.flow.course ≡ Over → Complete r
 unfolding answered_in lines_in lines_of one_more played_in
 over_complete start few places over = going_over over
@@ -280,7 +254,7 @@ over_complete (turn {n} {h} {after} r t) few places over =
     let lines : held_text (turn r t) ≡ cut_to (length after.line) (with_bytes uncut (read_in (turn r t))) =
     follows.cuts ∙ ap (λ (xs : List ℕ). cut_to (length after.line) (with_bytes uncut xs)) (sym text) in
     let few_played : length (played_in (turn r t)) < most_turns =
-    omega (arith, few, (counts r).few, ap length (rest_same t.taken.ends (take t.taken.size after.line) (played_in r) (none_ends r t over))) in
+    omega (arith, few, (counts r).few, ap length (rest_same (ends t.taken) (take (size t.taken) after.line) (played_in r) (none_ends r t over))) in
     record {
       earlier = answered_in r;
       over = ap (λ (zs : List ℤ). zs ++ answered_in r) (over_is r t over).answered;
@@ -288,12 +262,12 @@ over_complete (turn {n} {h} {after} r t) few places over =
       lines = lines;
       count = counted (turn r t) few_played places lines;
       told = sym (append-nil (written_in (turn r t)))
-          ∙ ap (λ (k : ℕ). written_in (turn r t) ++ take k after.out) (sym (none_waits r t over))
+          ∙ ap (λ (xs : List ℕ). written_in (turn r t) ++ xs) (sym (none_waits r t over))
           ∙ told_all (turn r t);
     }
 
 -- what is written last, by the course of the run
-last_going : (f : Flow) (line out : List ℕ) → f.course ≡ Going → last_text f line out ≡ take f.end out
+last_going : (f : Flow) (line out : List ℕ) → f.course ≡ Going → last_text f line out ≡ out
 unfolding text_after
 last_going f line out e = rw e
 
@@ -305,16 +279,16 @@ last_failed : (f : Flow) (line out : List ℕ) → f.course ≡ Failed → last_
 unfolding text_after
 last_failed f line out e = rw e
 
-pub all_handed : {part line numbers words out part' line' numbers' words' out' : List ℕ} {end : ℕ}
-    (p : PlaysIn (begins part line numbers words out) part' line' numbers' words' out' end) → 0 < length line'
-    → Handed p.plays.reached (take end out')
-all_handed {line' = line'} p places =
+pub all_handed : {part line numbers words part' line' numbers' words' out' : List ℕ} {places places' : ℕ}
+    (p : PlaysIn (begins part line numbers words places) part' line' numbers' words' places' out') → 0 < length line'
+    → Handed p.plays.reached out'
+all_handed {line' = line'} p some =
     let r = p.plays.reached in
     let f = p.flow in
     record {
       going = λ e. ap (λ (xs : List ℕ). written_in r ++ xs) (p.last ∙ last_going f line' p.answers e) ∙ told_all r;
       over = λ e.
-          let whole = over_complete r p.plays.few places e in
+          let whole = over_complete r p.plays.few some e in
           (ap₂ ◌++◌ whole.told (p.last ∙ last_over f line' p.answers e), whole);
       failed = λ e. p.last ∙ last_failed f line' p.answers e;
     }

@@ -18,6 +18,7 @@ use Rattle.reading.specs.Lines.{Meaning, meaning_of, numbers_read}
 use Rattle.journal.specs.Played.{outcome_of}
 use Rattle.journal.proofs.Demand3.{Promise}
 use Rattle.journal.proofs.Theorem.{demand_3}
+use Rattle.lines.specs.Input.{ends, size}
 use Rattle.settle.specs.declared.calls.Asked.{Asked}
 use Rattle.settle.specs.declared.calls.Played.{Played}
 use Rattle.settle.specs.Asked.{noted}
@@ -50,7 +51,7 @@ unfolding noted
 numbers_kept start = refl
 numbers_kept (turn {h = h} {after} r t) =
     ap length t.noting
-    ∙ pick_case (λ (ns : List ℕ). length ns ≡ length h.numbers) t.taken.ends _ _ (λ e. length-sets h.numbers 0 (numbers_read (take t.taken.size after.line))) (λ e. refl)
+    ∙ pick_case (λ (ns : List ℕ). length ns ≡ length h.numbers) (ends t.taken) _ _ (λ e. length-sets h.numbers 0 (numbers_read (take (size t.taken) after.line))) (λ e. refl)
     ∙ numbers_kept r
 
 -- what the lines that were played say
@@ -62,22 +63,22 @@ journal_grows : {first h after : Held} {n : ℕ} (r : Reached first n h) (t : Tu
     → with_request (request_by t.asked.line t.asked after.numbers) (journal_of (said_in r)) ≡ journal_of (said_in (turn r t))
 unfolding played_in journal_of with_request
 journal_grows {h = h} {after} r t room =
-    let asks : request_by t.asked.line t.asked after.numbers ≡ pick t.taken.ends (request_of (meaning_of line)) neither =
+    let asks : request_by t.asked.line t.asked after.numbers ≡ pick (ends t.taken) (request_of (meaning_of line)) neither =
     rw (t.asking, t.noting) (request_said t.taken after.line h.numbers room) in
-    ap (λ (q : Request). with_request q (journal_of (said_in r))) asks ∙ by t.taken.ends
+    ap (λ (q : Request). with_request q (journal_of (said_in r))) asks ∙ by (ends t.taken)
   where
     line : List ℕ
-    line = take t.taken.size after.line
+    line = take (size t.taken) after.line
 
-    by : (ends : Bool)
-        → with_request (pick ends (request_of (meaning_of line)) neither) (journal_of (said_in r))
-        ≡ journal_of (map meaning_of (pick ends (line ∷ played_in r) (played_in r)))
+    by : (ended : Bool)
+        → with_request (pick ended (request_of (meaning_of line)) neither) (journal_of (said_in r))
+        ≡ journal_of (map meaning_of (pick ended (line ∷ played_in r) (played_in r)))
     by true = refl
     by false = refl
 
 -- so the journal of the lines that were played leads to the book that the program holds
-held_leads : {part line numbers words out : List ℕ} {h : Held} {n : ℕ}
-    (r : Reached (begins part line numbers words out) n h) → most_numbers ≤ length numbers
+held_leads : {part line numbers words : List ℕ} {places : ℕ} {h : Held} {n : ℕ}
+    (r : Reached (begins part line numbers words places) n h) → most_numbers ≤ length numbers
     → h.book ≡ (run_of (journal_of (said_in r))).book
 unfolding played_in journal_of
 held_leads start room = refl
@@ -93,8 +94,8 @@ first_refused = refl
 -- The main law of this module. The lines that were played make a journal: the Open and the calls since the latest open. The
 -- book that the program holds is the one to which this journal leads, and what is promised of whole journals holds of just
 -- this run.
-pub held_promised : {part line numbers words out : List ℕ} {h : Held} {n : ℕ}
-    (r : Reached (begins part line numbers words out) n h) → Buffers line numbers words out
+pub held_promised : {part line numbers words : List ℕ} {places : ℕ} {h : Held} {n : ℕ}
+    (r : Reached (begins part line numbers words places) n h) → Buffers line numbers words places
     → let s = run_of (journal_of (map meaning_of (played_in r))) in (h.book ≡ s.book) × Promise s
 held_promised r buffers =
     let j = journal_of (said_in r) in

@@ -27,6 +27,7 @@ use Rattle.reading.proofs.Shapes.{shape_plain}
 use Rattle.reading.proofs.Arguments.{call_arguments, days_listed, lent_listed, amounts_listed}
 use Rattle.calendar.specs.Closed.{day}
 use Rattle.journal.specs.Calls as journal
+use Rattle.lines.specs.Input.{ends, size}
 use Rattle.settle.specs.declared.calls.Asked.{Asked}
 use Rattle.settle.specs.Asked.{asked_call, asked_of, asks, noted}
 use Rattle.settle.specs.Calls.{Request, plain, asking_of}
@@ -188,20 +189,20 @@ line_request line places after room u = by (meaning_of line) refl
 -- so a line that has ended asks for what it says, and before it has ended it asks for neither an Open nor a call
 pub request_said : (t : Taken) (line ns : List ℕ) → most_numbers ≤ length ns
     → request_by (asks t line ns).line (asks t line ns) (noted t line ns)
-    ≡ pick t.ends (request_of (meaning_of (take t.size line))) neither
+    ≡ pick (ends t) (request_of (meaning_of (take (size t) line))) neither
 unfolding asks noted
-request_said t line ns room = by t.ends refl
+request_said t line ns room = by (ends t) refl
   where
     said : Meaning
-    said = meaning_of (take t.size line)
+    said = meaning_of (take (size t) line)
 
     after : List ℕ
-    after = sets ns 0 (numbers_read (take t.size line))
+    after = sets ns 0 (numbers_read (take (size t) line))
 
-    by : (ends : Bool) → t.ends ≡ ends
-        → request_by (asks t line ns).line (asks t line ns) (noted t line ns) ≡ pick ends (request_of said) neither
+    by : (ended : Bool) → ends t ≡ ended
+        → request_by (asks t line ns).line (asks t line ns) (noted t line ns) ≡ pick ended (request_of said) neither
     by true e =
         rw e
         (ap (λ (l : Line). request_by l (asked_of (line_of said) after) after) (asked_by (line_of said) after)
-        ∙ line_request (take t.size line) ns after room (record { answer = refl; numbers = refl }))
+        ∙ line_request (take (size t) line) ns after room (record { answer = refl; numbers = refl }))
     by false e = rw e

@@ -27,10 +27,10 @@ use Rattle.settle.proofs.Flows.{Kept, fed_kept}
 use Rattle.settle.proofs.Turning.{took_within}
 
 -- this holds before anything is read
-started : (part line numbers words out : List ℕ)
-    → Follows {first = begins part line numbers words out} {h = begins part line numbers words out} {n = 0} start
+started : (part line numbers words : List ℕ) (places : ℕ)
+    → Follows {first = begins part line numbers words places} {h = begins part line numbers words places} {n = 0} start
 unfolding read_in played_in with_bytes
-started part line numbers words out = record { read = omega arith; held = omega arith; taken = []; left = []; text = refl; waits = inr refl; cuts = ap (λ (xs : List ℕ). record { ended = []; rest = xs }) (sym (take-nil (length line))) }
+started part line numbers words places = record { read = omega arith; held = omega arith; taken = []; left = []; text = refl; waits = inr refl; cuts = ap (λ (xs : List ℕ). record { ended = []; rest = xs }) (sym (take-nil (length line))) }
 
 -- a run that has failed drops the bytes that it has not taken, so none are left
 dropped_none : (f : Feed) (part : List ℕ) → unread (dropped_from f) part ≡ []
@@ -81,7 +81,8 @@ module _ (f : Flow) (part after : List ℕ) where
       }
 
 -- so it holds in every case
-fed_next : {f r : Flow} {places : ℕ} {part after : List ℕ} (h : f.course ≡ Going) (d : FedOn f places part after r) → Next f r part after (read_by d)
+fed_next : {f r : Flow} {places : ℕ} {out part after waiting : List ℕ} (h : f.course ≡ Going) (d : FedOn f places out part after r waiting)
+    → Next f r part after (read_by d)
 unfolding read_by
 fed_next {f} {part = part} {after} h (ready u w e) = next_same f part after f h refl e
 fed_next {f} {part = part} {after} h (cleared u w e) = next_same f part after _ refl refl e
@@ -201,9 +202,9 @@ module _ {first h after : Held} {n : ℕ} (r : Reached first n h) (t : Turn h af
 
 -- So after any number of turns the lines that were played are those of the text, whatever was read and in whatever
 -- parts.
-pub reached_follows : {part line numbers words out : List ℕ} {h : Held} {n : ℕ}
-    (r : Reached (begins part line numbers words out) n h) → Follows r
-reached_follows {part} {line} {numbers} {words} {out} start = started part line numbers words out
+pub reached_follows : {part line numbers words : List ℕ} {places : ℕ} {h : Held} {n : ℕ}
+    (r : Reached (begins part line numbers words places) n h) → Follows r
+reached_follows {part} {line} {numbers} {words} {places} start = started part line numbers words places
 reached_follows (turn r t) = turn_follows r t (reached_follows r)
 
 -- lines that are cut say what the whole lines say
@@ -213,8 +214,8 @@ meant n h (l ∷ ls) = ap₂ ◌∷◌ (meaning_cut n l h) (meant n h ls)
 
 -- If there are more places than a call's line may have bytes, the lines that were played say what the lines of the text
 -- say.
-pub played_means : {part line numbers words out : List ℕ} {h : Held} {n : ℕ}
-    (r : Reached (begins part line numbers words out) n h) → most_bytes < length h.line
+pub played_means : {part line numbers words : List ℕ} {places : ℕ} {h : Held} {n : ℕ}
+    (r : Reached (begins part line numbers words places) n h) → most_bytes < length h.line
     → map meaning_of (played_in r) ≡ map meaning_of (with_bytes uncut (reached_follows r).taken).ended
 played_means {h = h} r long =
     let f = reached_follows r in

@@ -17,7 +17,7 @@ use Rattle.reading.specs.declared.Shape.{Shape}
 use Rattle.answers.specs.declared.Answer.{Answer}
 use Rattle.answers.specs.Text.{Tellable, answer_text}
 use Rattle.answers.specs.Told.{numbers_told}
-use Rattle.answers.proofs.Tells.{answer_most, numbers_tells}
+use Rattle.answers.proofs.Tells.{numbers_tells}
 use Rattle.journal.specs.Calls.{Call}
 use Rattle.journal.specs.Played.{outcome_of}
 use Rattle.settle.specs.declared.calls.Asked.{Asked}
@@ -32,7 +32,7 @@ use Rattle.settle.specs.Turns.{Buffers, Gives, Held, begins, Reached, most_turns
 use Rattle.settle.specs.Turns.Gives.{calling}
 use Rattle.settle.specs.Turns.Reached.{start, turn}
 use Rattle.settle.specs.Ending.{Plays}
-use Rattle.settle.proofs.Flows.{Kept, Ready}
+use Rattle.settle.proofs.Flows.{Kept}
 
 -- What holds after a number of turns. They lead there, the book is valid, and all places are within the buffers.
 pub record Stands (first : Held) (turns : ℕ) (h : Held) : Type 0 where
@@ -41,19 +41,17 @@ pub record Stands (first : Held) (turns : ℕ) (h : Held) : Type 0 where
   pub ordered : h.flow.feed.from ≤ h.flow.feed.to
   pub read : h.flow.feed.to ≤ length h.part
   pub held : h.flow.feed.held ≤ length h.line
-  pub within : h.flow.end ≤ length h.out
-  pub room : Buffers h.line h.numbers h.words h.out
+  pub room : Buffers h.line h.numbers h.words h.places
 
 -- this holds before the first turn
-pub standing : (part line numbers words out : List ℕ) → Valid at_first.book → Buffers line numbers words out
-    → Stands (begins part line numbers words out) 0 (begins part line numbers words out)
-standing part line numbers words out v b = record {
+pub standing : (part line numbers words : List ℕ) (places : ℕ) → Valid at_first.book → Buffers line numbers words places
+    → Stands (begins part line numbers words places) 0 (begins part line numbers words places)
+standing part line numbers words places v b = record {
   reached = start;
   valid = v;
   ordered = omega arith;
   read = omega arith;
   held = omega arith;
-  within = omega arith;
   room = b;
 }
 
@@ -110,25 +108,25 @@ pub took_within : {f : Flow} {part line after : List ℕ} {t : Taken} → TakenO
 took_within {f} {part} {line} took = rw took.took (taken_within f.feed part (length line))
 
 -- what holds between two turns still holds after one more turn
-pub turned : {first h after : Held} {turns : ℕ} {fed : Flow} {taken : Taken} {asked : Asked} (answer : Answer) → h.flow.course ≡ Going → Stands first turns h
-    → FedOn h.flow (length h.out) h.part after.part fed
-    → Kept h.flow after.part fed → Ready (length h.out) fed
+pub turned : {first h after : Held} {turns : ℕ} {fed : Flow} {waiting : List ℕ} {taken : Taken} {asked : Asked} (answer : Answer) → h.flow.course ≡ Going → Stands first turns h
+    → FedOn h.flow h.places h.out h.part after.part fed waiting
+    → Kept h.flow after.part fed
     → TakenOn fed after.part h.line after.line taken
     → asked ≡ asks taken after.line h.numbers
     → after.numbers ≡ noted taken after.line h.numbers
     → Given h.book asked after.numbers h.words (record { book = after.book; answer = answer }) after.words
-    → ToldOn fed taken (answer_text answer taken.feed.ended after.words) h.out after.out after.flow
+    → ToldOn fed taken (answer_text answer taken.feed.ended after.words) h.places waiting after.out after.flow
     → length after.line ≡ length h.line
-    → length after.numbers ≡ length h.numbers → length after.out ≡ length h.out
+    → length after.numbers ≡ length h.numbers → after.places ≡ h.places
     → Stands first (suc turns) after
-turned {first} {h} {after} {turns} {fed} {taken} {asked} answer going s feeds on fit takes asking noting given tells line numbers out =
+turned {first} {h} {after} {turns} {fed} {waiting} {taken} {asked} answer going s feeds on takes asking noting given tells line numbers same =
     let took = took_within takes in
     let next = tells.next in
-    let most = answer_most answer taken.feed.ended after.words given.tells in
     record {
       reached = turn s.reached (record {
         going = going;
         fed = fed;
+        waiting = waiting;
         feeds = feeds;
         taken = taken;
         takes = takes;
@@ -138,16 +136,16 @@ turned {first} {h} {after} {turns} {fed} {taken} {asked} answer going s feeds on
         answer = answer;
         gives = given.gives;
         tells = tells;
+        same = same;
       });
       valid = given.valid;
       ordered = rw next took.ordered;
       read = rw next (omega (arith, took.read, on.within));
       held = rw next (omega (arith, took.held, line));
-      within = omega (arith, tells.wrote.place, most, fit.room, out);
       room = record {
         longer = omega (arith, s.room.longer, line);
         numbered = omega (arith, s.room.numbered, numbers);
         lendable = omega (arith, s.room.lendable, given.same);
-        writable = omega (arith, s.room.writable, out);
+        writable = omega (arith, s.room.writable, same);
       };
     }

@@ -3,6 +3,7 @@ use Rattle.std.specs.Prelude.{ℕ, ◌-◌, ◌≤◌, List, length, get_or, tak
 use Rattle.std.proofs.lemmas.List.Edits.{sets}
 use Rattle.basics.specs.Choice.{pick}
 use Rattle.lines.specs.declared.Taken.{Taken}
+use Rattle.lines.specs.Input.{ends, size}
 use Rattle.reading.specs.declared.Name.{Name}
 use Rattle.reading.specs.declared.Shape.{Shape}
 use Rattle.reading.specs.declared.Line.{Line}
@@ -65,12 +66,12 @@ asked_of NoCall ns = nothing_asked NoCall
 
 -- The buffer for numbers after bytes of a line were taken. If the line has ended, its numbers now come first.
 unfoldable pub noted : Taken → List ℕ → List ℕ → List ℕ
-noted t line ns = pick t.ends (sets ns 0 (numbers_read (take t.size line))) ns
+noted t line ns = pick (ends t) (sets ns 0 (numbers_read (take (size t) line))) ns
 
 -- What is asked after bytes of a line were taken. If the line has not ended yet, nothing is asked, as by a comment.
 unfoldable pub asks : Taken → List ℕ → List ℕ → Asked
 asks t line ns =
-    pick t.ends (asked_of (line_of (meaning_of (take t.size line))) (noted t line ns)) (nothing_asked Comment)
+    pick (ends t) (asked_of (line_of (meaning_of (take (size t) line))) (noted t line ns)) (nothing_asked Comment)
 
 -- A call's list is within its numbers, and no more words are lent than a list may have.
 pub record Listed (a : Asked) (numbers : List ℕ) : Type 0 where

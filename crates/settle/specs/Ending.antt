@@ -23,7 +23,7 @@ over_text f line = torn_text (lines_of f) (take f.held line) ++ end_of (lines_of
 -- What is written last, by how the run went. If the turns ran out, it is the answers in the output that are not written
 -- yet.
 unfoldable pub text_after : Course → Flow → List ℕ → List ℕ → List ℕ
-text_after Going f line out = take f.end out
+text_after Going f line out = out
 text_after Over f line out = over_text f.feed line
 text_after Failed f line out = []
 
@@ -40,12 +40,11 @@ pub record Plays (first last : Held) : Type 0 where
   pub ends : (last.flow.course ≡ Going) → turns ≡ most_turns
 
 -- The journal was played from what the program holds at first to these contents of the buffers. `answers` is the output
--- before the last text was put there. The first `end` bytes of the output are the last text, which is still to be
--- written.
-pub record PlaysIn (first : Held) (part line numbers words out : List ℕ) (end : ℕ) : Type 0 where
+-- before the last text was put there. What is in the output then is the last text, which is still to be written.
+pub record PlaysIn (first : Held) (part line numbers words : List ℕ) (places : ℕ) (out : List ℕ) : Type 0 where
   pub book : Book
   pub flow : Flow
   pub answers : List ℕ
   pub plays : Plays first
-      (record { book = book; flow = flow; part = part; line = line; numbers = numbers; words = words; out = answers })
-  pub last : take end out ≡ last_text flow line answers
+      (record { book = book; flow = flow; part = part; line = line; numbers = numbers; words = words; places = places; out = answers })
+  pub last : out ≡ last_text flow line answers

@@ -3,7 +3,7 @@
 use Rattle.std.specs.Prelude.{ℕ, ◌≤◌, ◌≡◌, Bool, true, false, ◌||◌, ◌⊎◌, List, [], ◌∷◌, ◌++◌, ℤ, pos, length, take}
 use Rattle.basics.specs.Choice.{pick}
 use Rattle.lines.specs.Text.{Cut, uncut, with_bytes, lines_in, cut_to, unread}
-use Rattle.lines.specs.Input.{lines_of}
+use Rattle.lines.specs.Input.{lines_of, ends, size}
 use Rattle.answers.specs.Text.{answer_text}
 use Rattle.settle.specs.declared.flow.Read.{Read}
 use Rattle.settle.specs.declared.flow.Read.TheVariants.{Bytes, Nothing, Error}
@@ -22,7 +22,7 @@ bytes_of Nothing part = []
 bytes_of Error part = []
 
 -- the bytes that were read in a turn
-unfoldable pub read_by : {f r : Flow} {places : ℕ} {part after : List ℕ} → FedOn f places part after r → List ℕ
+unfoldable pub read_by : {f r : Flow} {places : ℕ} {out part after waiting : List ℕ} → FedOn f places out part after r waiting → List ℕ
 read_by (ready u w e) = []
 read_by (cleared u w e) = []
 read_by (uncleared u w e) = []
@@ -30,7 +30,7 @@ read_by {after = after} (fed u e on) = bytes_of (read_of on.got (length after)) 
 read_by (unfed u e) = []
 
 -- the numbers that the system answered to reads in a turn: one, or none if the turn made no read
-unfoldable pub answered_by : {f r : Flow} {places : ℕ} {part after : List ℕ} → FedOn f places part after r → List ℤ
+unfoldable pub answered_by : {f r : Flow} {places : ℕ} {out part after waiting : List ℕ} → FedOn f places out part after r waiting → List ℤ
 answered_by (ready u w e) = []
 answered_by (cleared u w e) = []
 answered_by (uncleared u w e) = []
@@ -44,7 +44,7 @@ is_error Nothing = false
 is_error Error = true
 
 -- whether a read or a write failed in a turn
-unfoldable pub fails_by : {f r : Flow} {places : ℕ} {part after : List ℕ} → FedOn f places part after r → Bool
+unfoldable pub fails_by : {f r : Flow} {places : ℕ} {out part after waiting : List ℕ} → FedOn f places out part after r waiting → Bool
 fails_by (ready u w e) = false
 fails_by (cleared u w e) = false
 fails_by (uncleared u w e) = true
@@ -52,12 +52,12 @@ fails_by {after = after} (fed u e on) = is_error (read_of on.got (length after))
 fails_by (unfed u e) = true
 
 -- the bytes of the output that were handed to a write in a turn
-unfoldable pub written_by : {f r : Flow} {places : ℕ} {part after : List ℕ} → List ℕ → FedOn f places part after r → List ℕ
-written_by out (ready u w e) = []
-written_by {f} out (cleared u w e) = take f.end out
-written_by {f} out (uncleared u w e) = take f.end out
-written_by {f} out (fed u e on) = take f.end out
-written_by {f} out (unfed u e) = take f.end out
+unfoldable pub written_by : {f r : Flow} {places : ℕ} {out part after waiting : List ℕ} → FedOn f places out part after r waiting → List ℕ
+written_by (ready u w e) = []
+written_by {out = out} (cleared u w e) = out
+written_by {out = out} (uncleared u w e) = out
+written_by {out = out} (fed u e on) = out
+written_by {out = out} (unfed u e) = out
 
 -- the text that was read in a run
 unfoldable pub read_in : {first h : Held} {n : ℕ} → Reached first n h → List ℕ
@@ -67,7 +67,7 @@ read_in (turn r t) = read_in r ++ read_by t.feeds
 -- the lines that were played in a run, the latest first
 unfoldable pub played_in : {first h : Held} {n : ℕ} → Reached first n h → List (List ℕ)
 played_in start = []
-played_in (turn {n} {h} {after} r t) = pick t.taken.ends (take t.taken.size after.line ∷ played_in r) (played_in r)
+played_in (turn {n} {h} {after} r t) = pick (ends t.taken) (take (size t.taken) after.line ∷ played_in r) (played_in r)
 
 -- the numbers that the system answered to reads in a run, the latest first
 unfoldable pub answered_in : {first h : Held} {n : ℕ} → Reached first n h → List ℤ
@@ -82,7 +82,7 @@ failed_in (turn r t) = fails_by t.feeds || failed_in r
 -- the bytes that were handed to writes in a run
 unfoldable pub written_in : {first h : Held} {n : ℕ} → Reached first n h → List ℕ
 written_in start = []
-written_in (turn {h = h} r t) = written_in r ++ written_by h.out t.feeds
+written_in (turn r t) = written_in r ++ written_by t.feeds
 
 -- the text of the answers to the lines that were played in a run
 unfoldable pub answers_in : {first h : Held} {n : ℕ} → Reached first n h → List ℕ

@@ -1,5 +1,5 @@
 -- How a journal is played, turn by turn: what the program holds between two turns, and what one turn does.
-use Rattle.std.specs.Prelude.{ℕ, suc, ◌≤◌, ◌<◌, ◌≡◌, List, length}
+use Rattle.std.specs.Prelude.{ℕ, suc, ◌≤◌, ◌<◌, ◌≡◌, List, [], length}
 use Rattle.book.specs.declared.Book.{Book}
 use Rattle.lines.specs.declared.Taken.{Taken}
 use Rattle.reading.specs.declared.Name.{Name}
@@ -24,11 +24,11 @@ use Rattle.settle.specs.Flow.{at_start, FedOn, TakenOn, ToldOn}
 -- The buffers are large enough. The one for a line has room for more bytes than a call's line may have, so that a line
 -- that is too long can be told from one that is not. The others have room for the numbers of a line, for the words that
 -- are lent, and for the longest answer.
-pub record Buffers (line numbers words out : List ℕ) : Type 0 where
+pub record Buffers (line numbers words : List ℕ) (places : ℕ) : Type 0 where
   pub longer : most_bytes < length line
   pub numbered : most_numbers ≤ length numbers
   pub lendable : most_listed ≤ length words
-  pub writable : most_answer ≤ length out
+  pub writable : most_answer ≤ places
 
 -- What a line does, given the book, the numbers of the line and the words that can be lent. The result is the book
 -- after the line, its answer, and the words as the line leaves them.
@@ -46,7 +46,8 @@ pub data Gives (b : Book) (a : Asked) (ns ws : List ℕ) : Line → Played → L
   passing : Gives b a ns ws Comment (played_with b nothing) ws
   objecting : Gives b a ns ws NoCall (played_with b no_call) ws
 
--- what the program holds between two turns: the book, how far the input and the output have come, and the buffers
+-- What the program holds between two turns: the book, how far the input has come, the buffers, how many places the
+-- output has, and the answers in it that are not written yet.
 pub record Held : Type 0 where
   pub book : Book
   pub flow : Flow
@@ -54,6 +55,7 @@ pub record Held : Type 0 where
   pub line : List ℕ
   pub numbers : List ℕ
   pub words : List ℕ
+  pub places : ℕ
   pub out : List ℕ
 
 -- A turn, which only happens while the run goes on. More is read if need be, bytes of the current line are taken, and
@@ -61,7 +63,8 @@ pub record Held : Type 0 where
 pub record Turn (h after : Held) : Type 0 where
   pub going : h.flow.course ≡ Going
   pub fed : Flow
-  pub feeds : FedOn h.flow (length h.out) h.part after.part fed
+  pub waiting : List ℕ
+  pub feeds : FedOn h.flow h.places h.out h.part after.part fed waiting
   pub taken : Taken
   pub takes : TakenOn fed after.part h.line after.line taken
   pub asked : Asked
@@ -69,18 +72,20 @@ pub record Turn (h after : Held) : Type 0 where
   pub noting : after.numbers ≡ noted taken after.line h.numbers
   pub answer : Answer
   pub gives : Gives h.book asked after.numbers h.words asked.line (played_with after.book answer) after.words
-  pub tells : ToldOn fed taken (answer_text answer taken.feed.ended after.words) h.out after.out after.flow
+  pub tells : ToldOn fed taken (answer_text answer taken.feed.ended after.words) h.places waiting after.out after.flow
+  pub same : after.places ≡ h.places
 
--- what the program holds before the first turn, with these contents of the buffers
-abbrev pub begins : List ℕ → List ℕ → List ℕ → List ℕ → List ℕ → Held
-begins part line numbers words out = record {
+-- what the program holds before the first turn, with these contents of the buffers, and with this many places for answers
+abbrev pub begins : List ℕ → List ℕ → List ℕ → List ℕ → ℕ → Held
+begins part line numbers words places = record {
   book = at_first.book;
   flow = at_start;
   part = part;
   line = line;
   numbers = numbers;
   words = words;
-  out = out;
+  places = places;
+  out = [];
 }
 
 -- what the program holds after this number of turns

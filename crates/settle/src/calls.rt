@@ -2,6 +2,7 @@
 ghost use Rattle.std.specs.Prelude.{◌≡◌, true, ◌-◌, ◌≤◌, length, take};
 ghost use Rattle.answers.specs.Told.{most_shown, numbers_told};
 ghost use Rattle.book.specs.Book.{Valid};
+ghost use Rattle.lines.specs.Input.{size};
 ghost use Rattle.reading.specs.Calls.{most_numbers, shape_right};
 ghost use Rattle.settle.specs.Asked.{nothing_asked, asked_with, asked_lent, asked_call, asks, noted, Listed};
 ghost use Rattle.settle.specs.Calls.{played_with, at_first, opens, enters, after_open, after_enter, after_done, after_cancel, after_deliver, after_close, after_call, words_after};
@@ -104,15 +105,14 @@ fn asks_call(name: Name, shape: Shape, count: usize, n: &[u64]) -> Asked
 
 // What the line asks of which bytes were taken. It asks nothing before it has ended.
 pub fn ask(taken: Taken, line: &[u8], n: &mut [u64]) -> Asked
-    requires { (taken.size ≤ length line.now) × (most_numbers ≤ length n.old) }
+    requires { (size taken ≤ length line.now) × (most_numbers ≤ length n.old) }
     ensures value { result ≡ asks taken line.now n.old }
     ensures n_after { n.new ≡ noted taken line.now n.old }
     ensures listed { Listed result n.new }
 {
-    if !taken.ends {
+    let Some(size) = taken.line else {
         return asks_nothing(Line::Comment);
-    }
-    let size = taken.size;
+    };
     match reading::read_line(&line[..size], n) {
         Line::Call(name, shape, count) => asks_call(name, shape, count, n),
         Line::Comment => asks_nothing(Line::Comment),

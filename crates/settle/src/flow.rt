@@ -1,7 +1,6 @@
 // Bytes in and out: where the input and the output stand from one turn to the next, and what reads and writes do to
 // them.
-ghost use Rattle.std.specs.Prelude.{◌≡◌, ◌+◌, ◌≤◌, length, take};
-ghost use Rattle.writing.specs.Answers.{Wrote};
+ghost use Rattle.std.specs.Prelude.{◌≡◌, ◌+◌, ◌≤◌, [], ◌++◌, length, take};
 ghost use Rattle.answers.specs.Text.{most_answer, Tellable, answer_text};
 ghost use Rattle.settle.specs.Flow.{at_start, answered, read_of, failed_from, ReadOn, FedOn, TakenOn, ToldOn};
 ghost use Rattle.settle.specs.Ending.{torn_text, over_text, last_text};
@@ -10,6 +9,7 @@ use answers::{Answer, MOST_ANSWER};
 use lines::{Feed, Taken};
 use std::io;
 use std::io::{ErrorKind, Read as _, Stderr, Stdin, Stdout, Write};
+use writing::Output;
 
 // The streams of the process: the journal comes in, the answers go out, and what failed is told.
 #[derive(Clone, Copy)]
@@ -38,11 +38,10 @@ enum Read {
     Error,
 }
 
-// Where the input stands, where the answers in the output end, and how the run goes.
+// Where the input stands, and how the run goes.
 #[derive(Clone, Copy)]
 pub struct Flow {
     pub feed: Feed,
-    pub end: usize,
     pub course: Course,
 }
 
@@ -52,7 +51,6 @@ pub fn start() -> Flow
 {
     Flow {
         feed: Feed::start(),
-        end: 0,
         course: Course::Going,
     }
 }
@@ -73,11 +71,10 @@ fn write_all(mut output: Stdout, text: &[u8]) -> io::Result<()> {
 
 // Hands the answers so far to the system, and answers whether all of them were written. If not, it prints the system's
 // reason on standard error.
-pub fn write_out(streams: Streams, out: &[u8], end: usize) -> bool
-    requires { end ≤ length out.now }
+pub fn write_out<const N: usize>(streams: Streams, out: &Output<N>) -> bool
     ensures { out.exit.now ≡ out.entry.now }
 {
-    match write_all(streams.answers, &out[..end]) {
+    match write_all(streams.answers, out.written()) {
         Ok(()) => true,
         Err(reason) => {
             let _ = eprintln!(streams.failures;
@@ -86,6 +83,15 @@ pub fn write_out(streams: Streams, out: &[u8], end: usize) -> bool
             false
         }
     }
+}
+
+// Hands the answers so far to the system, so that none waits in the output, and answers whether all of them were written.
+fn hand_out<const N: usize>(streams: Streams, out: &mut Output<N>) -> bool
+    ensures { out.new ≡ [] }
+{
+    let written = write_out(streams, out);
+    out.clear();
+    written
 }
 
 // What a read brought, by what the system answered. A count is never more than the buffer has places for.
@@ -107,13 +113,12 @@ fn tell_unread(streams: Streams, got: io::Result<usize>) {
     }
 }
 
-// The run has failed: no more of the bytes that were read are taken, and no answer waits to be written.
+// The run has failed: no more of the bytes that were read are taken.
 fn failed(feed: Feed) -> Flow
     ensures { result ≡ failed_from feed }
 {
     Flow {
         feed: feed.dropped(),
-        end: 0,
         course: Course::Failed,
     }
 }
@@ -128,12 +133,10 @@ fn read_on(streams: Streams, feed: Feed, part: &mut [u8]) -> Flow
     match read_as(got, part) {
         Read::Bytes(count) => Flow {
             feed: feed.filled(count),
-            end: 0,
             course: Course::Going,
         },
         Read::Nothing => Flow {
-            feed: feed,
-            end: 0,
+            feed,
             course: Course::Over,
         },
         Read::Error => {
@@ -146,24 +149,27 @@ fn read_on(streams: Streams, feed: Feed, part: &mut [u8]) -> Flow
 // Makes ready for the next bytes of a line. If all that was read is used up, it writes the answers so far and reads
 // more. If there is no room for the longest answer, it writes the answers so far. This comes before a line is played,
 // so that there is always room for the line's answer, and no line is played after a write that failed.
-pub fn feed_on(streams: Streams, flow: Flow, part: &mut [u8], out: &[u8]) -> Flow
-    requires { (flow.end ≤ length out.now) × (most_answer ≤ length out.now) }
-    ensures { FedOn flow (length out.now) part.old part.new result }
+pub fn feed_on<const N: usize>(
+    streams: Streams,
+    flow: Flow,
+    part: &mut [u8],
+    out: &mut Output<N>,
+) -> Flow
+    ensures { FedOn flow N out.old part.old part.new result out.new }
 {
     let feed = flow.feed;
     if feed.is_used_up() {
-        if write_out(streams, out, flow.end) {
+        if hand_out(streams, out) {
             return read_on(streams, feed, part);
         }
         return failed(feed);
     }
-    if flow.end <= out.len() - MOST_ANSWER {
+    if out.has_room(MOST_ANSWER) {
         return flow;
     }
-    if write_out(streams, out, flow.end) {
+    if hand_out(streams, out) {
         return Flow {
-            feed: feed,
-            end: 0,
+            feed,
             course: Course::Going,
         };
     }
@@ -175,63 +181,59 @@ pub fn take(flow: Flow, part: &[u8], line: &mut [u8]) -> Taken
     requires { (flow.feed.from ≤ flow.feed.to) × (flow.feed.to ≤ length part.now) × (flow.feed.held ≤ length line.old) }
     ensures { TakenOn flow part.now line.old line.new result }
 {
-    let feed = flow.feed;
-    feed.take(part, line)
+    flow.feed.take(part, line)
 }
 
 // Puts the answer to the line that was taken into the output.
-pub fn tell(flow: Flow, taken: Taken, answer: Answer, words: &[u64], out: &mut [u8]) -> Flow
-    requires { (Tellable answer words.now) × (flow.end + most_answer ≤ length out.old) }
-    ensures { ToldOn flow taken (answer_text answer taken.feed.ended words.now) out.old out.new result }
+pub fn tell<const N: usize>(
+    flow: Flow,
+    taken: Taken,
+    answer: Answer,
+    words: &[u64],
+    out: &mut Output<N>,
+) -> Flow
+    requires { (Tellable answer words.now) × (length out.old + most_answer ≤ N) }
+    ensures { ToldOn flow taken (answer_text answer taken.feed.ended words.now) N out.old out.new result }
 {
     let feed = taken.feed;
-    let course = flow.course;
-    let end = answer.tell(feed.ended, words, out, flow.end);
-    Flow {
-        feed: feed,
-        end: end,
-        course: course,
-    }
+    answer.tell(feed.ended, words, out);
+    Flow { feed, ..flow }
 }
 
 // Puts the answer to a last line without a line feed into the output. Such a line is torn and is no call. If it is a
-// comment, it has no answer.
-fn tell_torn(held: usize, lines: u64, line: &[u8], out: &mut [u8]) -> usize
-    requires { (held ≤ length line.now) × (28 ≤ length out.old) }
-    ensures { Wrote (torn_text lines (take held line.now)) out.old 0 out.new result }
+// comment, or if there is none, it has no answer.
+fn tell_torn<const N: usize>(torn: &[u8], lines: u64, out: &mut Output<N>)
+    requires { length out.old + 28 ≤ N }
+    ensures { out.new ≡ out.old ++ torn_text lines torn.now }
 {
-    if held == 0 {
-        return 0;
+    if !torn.is_empty() && torn[0] != b'#' {
+        out.no_call(lines);
     }
-    if line[0] == b'#' {
-        return 0;
-    }
-    writing::write_no_call(out, 0, lines)
 }
 
 // The whole text was read, and its lines were played and answered. What is still to be written is the answer to a torn
 // last line, and the line `end`.
-fn tell_over(feed: Feed, line: &[u8], out: &mut [u8]) -> usize
-    requires { (feed.held ≤ length line.now) × (most_answer ≤ length out.old) }
-    ensures { Wrote (over_text feed line.now) out.old 0 out.new result }
+fn tell_over<const N: usize>(feed: Feed, line: &[u8], out: &mut Output<N>)
+    requires { (feed.held ≤ length line.now) × (length out.old + most_answer ≤ N) }
+    ensures { out.new ≡ out.old ++ over_text feed line.now }
 {
     let lines = feed.lines();
-    let at = tell_torn(feed.held, lines, line, out);
-    writing::write_end(out, at, lines)
+    tell_torn(&line[..feed.held], lines, out);
+    out.end(lines);
 }
 
-// Puts what is written last into the output, and answers up to which place it stands there. Only if the input is over
-// does it say by a line `end` that the run is complete. If the turns ran out, only the answers so far are left to
-// write.
-pub fn tell_last(flow: Flow, line: &[u8], out: &mut [u8]) -> usize
-    requires { (flow.feed.held ≤ length line.now) × (flow.end ≤ length out.old) × (most_answer ≤ length out.old) }
-    ensures upper_bound { result ≤ length out.new }
-    ensures out_after { take result out.new ≡ last_text flow line.now out.old }
+// Puts what is written last into the output. Only if the input is over does it say by a line `end` that the run is
+// complete. If the turns ran out, only the answers so far are left to write.
+pub fn tell_last<const N: usize>(flow: Flow, line: &[u8], out: &mut Output<N>)
+    requires { (flow.feed.held ≤ length line.now) × (most_answer ≤ N) }
+    ensures { out.new ≡ last_text flow line.now out.old }
 {
-    let course = flow.course;
-    match course {
-        Course::Going => flow.end,
-        Course::Over => tell_over(flow.feed, line, out),
-        Course::Failed => 0,
+    match flow.course {
+        Course::Going => {}
+        Course::Over => {
+            out.clear();
+            tell_over(flow.feed, line, out);
+        }
+        Course::Failed => out.clear(),
     }
 }

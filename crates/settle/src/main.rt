@@ -17,6 +17,7 @@ use std::env::FillError;
 use std::io;
 use std::io::Stdout;
 use std::rt::Env;
+use writing::Output;
 
 mod calls;
 mod flow;
@@ -34,22 +35,22 @@ fn goes_on(course: Course) -> bool
 
 // Plays the journal. A proved loop has to end, but a journal may go on for ever. So the loop has more turns than any run
 // uses up. A turn takes bytes of one line, and plays the line if it has ended. The calls are made here and not in a
-// function of their own, because the book would be copied once more on its way to that function. The result is the
-// number of bytes of the output that are still to be written. If the whole journal was played, they end with the line
-// `end`.
-fn settle_all(
+// function of their own, because the book would be copied once more on its way to that function. The answer is handed on
+// by value, since the book beside it would be copied once more if the answer were lent. What is in the output in the end
+// is still to be written. If the whole journal was played, it ends with the line `end`.
+fn settle_all<const N: usize>(
     streams: Streams,
     part: &mut [u8],
     line: &mut [u8],
     numbers: &mut [u64],
     words: &mut [u64],
-    out: &mut [u8],
-) -> usize
-    requires { Buffers line.old numbers.old words.old out.old }
-    ensures upper_bound { result ≤ length out.new }
-    ensures plays_in { PlaysIn (begins part.old line.old numbers.old words.old out.old)
-        part.new line.new numbers.new words.new out.new result }
+    out: &mut Output<N>,
+)
+    requires { Buffers line.old numbers.old words.old N }
+    ensures plays_in { PlaysIn (begins part.old line.old numbers.old words.old N)
+        part.new line.new numbers.new words.new N out.new }
 {
+    out.clear();
     let mut flow = flow::start();
     let mut played = calls::before_all();
     for _ in 0..u64::MAX {
@@ -85,7 +86,7 @@ fn settle_all(
         }
         flow = flow::tell(fed, taken, played.answer, words, out);
     }
-    flow::tell_last(flow, line, out)
+    flow::tell_last(flow, line, out);
 }
 
 // Places for the bytes of one read.
@@ -110,8 +111,8 @@ fn play(streams: Streams) {
     let mut line = [0u8; LINE_PLACES];
     let mut numbers = [0u64; NUMBER_PLACES];
     let mut words = [0u64; WORD_PLACES];
-    let mut out = [0u8; ANSWER_PLACES];
-    let end = settle_all(
+    let mut out: Output<ANSWER_PLACES> = Output::new();
+    settle_all(
         streams,
         &mut part,
         &mut line,
@@ -119,7 +120,7 @@ fn play(streams: Streams) {
         &mut words,
         &mut out,
     );
-    flow::write_out(streams, &out, end);
+    flow::write_out(streams, &out);
 }
 
 // Says where the journal is read from, where its format is described, what the program was proved with, and which

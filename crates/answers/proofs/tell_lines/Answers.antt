@@ -1,28 +1,22 @@
--- `tell_lines` meets its contract.
-use native.Mathlib.Omega.{arith}
-use mathlib.Core.Path.{◌≡◌}
-use Rattle.writing.proofs.Writing.{wrote_none, wrote_then, wrote_length}
+-- There is room for one more line.
+use Rattle.std.proofs.Common.{◌≡◌, ◌+◌, ◌-◌, ◌*◌, sym, arith, rules, append-nil}
+use Rattle.std.proofs.lemmas.Grind.{common_steps}
 use Rattle.answers.specs.Text.{lines_text}
 use Rattle.answers.proofs.Lengths.{lines_more, lines_most}
 use Rattle.answers.proofs.tell_lines.Goals as goal
 
 pub loop-k-init : goal.loop-k-init
 unfolding lines_text
-loop-k-init c = (omega arith, wrote_none _ _)
+loop-k-init g c = sym (append-nil _)
 
-pub tell_six-end-requires : goal.tell_six-end-requires
-tell_six-end-requires c =
-    let turn = c.loop-k in
-    let most = lines_most c.args.words.now turn.k in
-    (omega arith, omega (arith, c.requires.1, turn.invariant.1.place, wrote_length turn.invariant.1))
+pub tell_six-requires : goal.tell_six-requires
+tell_six-requires g c =
+    let most = lines_most c.args.words.now c.loop-k.k in
+    (search rules, (grind (arith, common_steps), grind (arith, common_steps, most)))
 
 pub loop-k-preserved : goal.loop-k-preserved
-loop-k-preserved c =
-    let turn = c.loop-k in
-    let wrote = wrote_then turn.invariant.1 c.tell_six-end.ensures in
-    (omega arith, rw (lines_more c.args.words.now turn.k) wrote)
-
-pub returns : goal.returns
-returns c =
-    let all : c.loop-k.k ≡ c.args.count = omega arith in
-    rw all at c.loop-k.invariant.1
+loop-k-preserved g c =
+    let k = c.loop-k.k in
+    let six : 6 * k + 6 - 6 * k ≡ 6 = omega arith in
+    let told = rw six at c.tell_six.ensures in
+    rw (lines_more c.args.words.now k) (grind (arith, common_steps))

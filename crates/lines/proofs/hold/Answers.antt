@@ -1,12 +1,8 @@
--- `hold` meets its contract.
-use native.Mathlib.Omega.{arith}
-use mathlib.Core.Path.{refl}
+-- If the bytes do not all fit, the line is the same as if all were written and those past its end were dropped.
+use Rattle.std.proofs.Common.{arith, rules}
 use Rattle.lines.proofs.Input.{held_cut}
 use Rattle.lines.proofs.hold.Goals as goal
 
-pub returns : goal.returns
-returns c =
-    let a = c.args in
-    let cut = held_cut a.line.now a.part.now c.write_bytes-2.new.out a.held a.from a.to _ c.write_bytes-2.result
-    (omega arith) (omega arith) refl (omega arith) c.write_bytes-2.ensures in
-    record { value = cut.0; line_after = cut.1 }
+pub returns-clause-line_after : goal.returns-clause-line_after
+returns-clause-line_after c =
+    held_cut c.args.line.now c.args.part.now _ c.args.held c.min-count.result _ (omega arith) (omega arith) (omega arith) (search rules)

@@ -19,38 +19,39 @@ use Rattle.settle.proofs.Flows.{fed_kept, fed_ready}
 use Rattle.settle.proofs.settle_all.Goals as goal
 use Rattle.settle.proofs.settle_all.Goals.{in-Call+in-Open, in-Call+in-Enter, in-Call+in-Withdraw, in-Call+in-Cancel, in-Call+in-Deliver, in-Call+in-Offer, in-Call+in-Rate, in-Call+in-Close, in-Call+in-Again, in-Call+in-Month, in-Call+in-Status, in-Call+in-Account, in-Call+in-Look, in-Call+in-Target, in-Call+in-Rules, in-Comment, in-NoCall}
 use Rattle.settle.proofs.settle_all.Goals.{Joined-kind, else-loop-test, then-loop-test+then-not-goes_on}
+use Rattle.settle.proofs.settle_all.Given.{Over}
 
 -- The answer to a call that is lent words for lines can be written, if its lines stand within these words.
-lines_tell : (a : Asked) (words : List ℕ) {after : List ℕ} (n count : ℕ) → a.lent ≤ most_listed → most_listed ≤ length words
+lines_tell : (a : Asked) (words after : List ℕ) (n count : ℕ) → a.lent ≤ most_listed → most_listed ≤ length words
     → words_in_line * count ≤ length (lent_to a) → length after ≡ length words
     → Tellable (closed_told n count a.lent a.fill) after
-lines_tell a words n count lends room fits same =
+lines_tell a words after n count lends room fits same =
     closed_tells _ _ _ _ _ lends (omega (arith, lends, same, room)) (omega (arith, fits, length-replicate a.lent a.fill))
 
 -- So can that to a close, and that to an again.
-close_tells : (b : Book) (a : Asked) (words : List ℕ) {after : List ℕ} → Valid b → a.lent ≤ most_listed → most_listed ≤ length words
+close_tells : (b : Book) (a : Asked) (words after : List ℕ) → Valid b → a.lent ≤ most_listed → most_listed ≤ length words
     → length after ≡ length words → Tellable (after_call b a (close_asked a)).answer after
 unfolding answer_by
-close_tells b a words valid lends room same = lines_tell a words _ _ lends room (close_fits b a.first (lent_to a) valid) same
+close_tells b a words after valid lends room same = lines_tell a words after _ _ lends room (close_fits b a.first (lent_to a) valid) same
 
-again_tells : (b : Book) (a : Asked) (words : List ℕ) {after : List ℕ} → Valid b → a.lent ≤ most_listed → most_listed ≤ length words
+again_tells : (b : Book) (a : Asked) (words after : List ℕ) → Valid b → a.lent ≤ most_listed → most_listed ≤ length words
     → length after ≡ length words → Tellable (after_call b a (again_asked a)).answer after
 unfolding answer_by
-again_tells b a words valid lends room same = lines_tell a words _ _ lends room (again_fits b (lent_to a) valid) same
+again_tells b a words after valid lends room same = lines_tell a words after _ _ lends room (again_fits b (lent_to a) valid) same
 
 -- The answer to a call that is told by numbers and the words that it was lent can be written.
-words_tell : (a : Asked) (words : List ℕ) {after : List ℕ} (shown : List ℕ) → length shown ≤ most_shown → a.lent ≤ most_listed
+words_tell : (a : Asked) (words after : List ℕ) (shown : List ℕ) → length shown ≤ most_shown → a.lent ≤ most_listed
     → most_listed ≤ length words → length after ≡ length words → Tellable (words_told shown a.lent) after
-words_tell a words shown few lends room same = words_tells shown _ _ few lends (omega (arith, lends, same, room))
+words_tell a words after shown few lends room same = words_tells shown _ _ few lends (omega (arith, lends, same, room))
 
-month_tells : (b : Book) (a : Asked) (ns : List ℕ) (words : List ℕ) {after : List ℕ} → a.lent ≤ most_listed → most_listed ≤ length words
+month_tells : (b : Book) (a : Asked) (ns words after : List ℕ) → a.lent ≤ most_listed → most_listed ≤ length words
     → length after ≡ length words → Tellable (after_call b a (month_asked a ns)).answer after
 unfolding answer_by
-month_tells b a ns words lends room same = words_tell a words _ (omega arith) lends room same
+month_tells b a ns words after lends room same = words_tell a words after _ (omega arith) lends room same
 
 -- what the line does, whichever call it is: one row an arm
-given : (c : Joined-kind) → Given c.loop.played.book c.ask-a.result c.ask-a.new.n c.loop.words c.match-kind.played c.match-kind.words
-given c =
+given : (g : Over) (c : Joined-kind g) → Given c.loop.played.book c.ask-a.result c.ask-a.new.n c.loop.words c.match-kind.played c.match-kind.words
+given g c =
     let b = c.loop.played.book in
     let a = c.ask-a.result in
     let valid = c.loop.invariant.stands.valid in
@@ -74,15 +75,15 @@ given c =
           (w.played-is ∙ w.from-played-in-Rate.ensures) w.rate.ensures.value w.rate.ensures.valid refl refl w.words-is
       | in-Call+in-Close w ↦ let e = w.close-played.ensures in
           given_by_lem _ _ _ (call_line w.in-Call.is w.in-Close.is) (w.played-is ∙ e.value) (w.words-is ∙ e.words_after)
-          (calling _ _ _ _ refl) (rw e.value at e.valid) (close_tells b a c.loop.words valid lends room same) same
+          (calling _ _ _ _ refl) (rw e.value at e.valid) (close_tells b a c.loop.words _ valid lends room same) same
       | in-Call+in-Again w ↦ let is : c.match-kind.played ≡ after_call b a (again_asked a) = cc in
           let left : c.match-kind.words ≡ words_after b a (again_asked a) c.loop.words = cc in
           let good : Valid c.match-kind.played.book = rw w.played-is (search rules) in
           given_by_lem _ _ _ (call_line w.in-Call.is w.in-Again.is) is left (calling _ _ _ _ refl)
-          (subst (λ (x : Played). Valid x.book) is good) (again_tells b a c.loop.words valid lends room same) same
+          (subst (λ (x : Played). Valid x.book) is good) (again_tells b a c.loop.words _ valid lends room same) same
       | in-Call+in-Month w ↦ let e = w.month-played.ensures in
           given_by_lem _ _ _ (call_line w.in-Call.is w.in-Month.is) (w.played-is ∙ e.value) (w.words-is ∙ e.words_after)
-          (calling _ _ _ _ refl) (rw e.value at e.valid) (month_tells b a c.ask-a.new.n c.loop.words lends room same) same
+          (calling _ _ _ _ refl) (rw e.value at e.valid) (month_tells b a c.ask-a.new.n c.loop.words _ lends room same) same
       | in-Call+in-Status w ↦ shown_given (call_line w.in-Call.is w.in-Status.is) (showing _ _)
           (w.played-is ∙ ap (played_with b) (w.shown-played.ensures ∙ ap shown_as w.status.ensures.value)) w.words-is valid
           (numbers_tells _ _ (omega arith))
@@ -94,7 +95,7 @@ given c =
           (w.played-is ∙ ap (played_with b) w.looked-played.ensures) w.words-is valid (numbers_tells _ _ (omega arith))
       | in-Call+in-Target w ↦ given_by_lem _ _ _ (call_line w.in-Call.is w.in-Target.is) (w.played-is ∙ ap (played_with b) w.target_days-played.ensures.value)
           (w.words-is ∙ w.target_days-played.ensures.words_after) (targeting _ _) valid
-          (words_tell a c.loop.words _ (omega arith) lends room same) same
+          (words_tell a c.loop.words _ _ (omega arith) lends room same) same
       | in-Call+in-Rules w ↦ shown_given (call_line w.in-Call.is w.in-Rules.is) (ruling _ _) (w.played-is ∙ ap (played_with b) w.rules-played.ensures)
           w.words-is valid (numbers_tells _ _ (omega arith))
       | in-Comment w ↦ shown_given w.in-Comment.is passing (w.played-is ∙ ap (played_with b) w.nothing-played.ensures) w.words-is valid
@@ -104,68 +105,69 @@ given c =
     ]
 
 pub loop-init : goal.loop-init
-loop-init c =
+loop-init g c =
     let book = ap (λ (p : Played). p.book) c.before_all-played.ensures.value in
-    let first = standing c.args.part.now c.args.line.now c.args.numbers.now c.args.words.now c.args.out.now
+    let first = standing c.args.part.now c.args.line.now c.args.numbers.now c.args.words.now g.row.N
     (rw book at c.before_all-played.ensures.valid) c.requires in
     record {
-      stands = rw (book, c.start-flow.ensures) first;
+      stands = rw (book, c.start-flow.ensures, c.clear.ensures) first;
       part_same = refl;
       line_same = refl;
       numbers_same = refl;
       words_same = refl;
-      out_same = refl;
     }
 
 pub take-taken-requires : goal.take-taken-requires
-take-taken-requires c =
+take-taken-requires g c =
     let s = c.loop.invariant.stands in
     let on = fed_kept c.feed_on-fed.ensures s.read in
     let fit = fed_ready c.feed_on-fed.ensures s.room.writable s.ordered in
     (fit.ordered, on.within, omega (arith, on.held, s.held))
 
 pub ask-a-requires : goal.ask-a-requires
-ask-a-requires c =
+ask-a-requires g c =
     let s = c.loop.invariant.stands in
     (omega (arith, (took_within c.take-taken.ensures).whole, c.take-taken.auto.line), s.room.numbered)
 
 pub tell-flow-requires : goal.tell-flow-requires
-tell-flow-requires c =
+tell-flow-requires g c =
     let s = c.loop.invariant.stands in
-    ((given (goal.at.tell-flow-requires c).Joined-kind).tells, (fed_ready c.feed_on-fed.ensures s.room.writable s.ordered).room)
+    (
+      search rules,
+      ((given g (goal.at.tell-flow-requires g c).Joined-kind).tells, (fed_ready c.feed_on-fed.ensures s.room.writable s.ordered).room),
+    )
 
 pub loop-preserved : goal.loop-preserved
-loop-preserved c =
+loop-preserved g c =
     let i = c.loop.invariant in
     let s = i.stands in
-    let g = given (goal.at.loop-preserved c).Joined-kind in
+    let does = given g (goal.at.loop-preserved g c).Joined-kind in
     let going = c.goes_on.ensures.0 c.if-not-goes_on.false in
     let fed = c.feed_on-fed.ensures in
     let line = c.take-taken.auto.line in
     let numbers = c.ask-a.auto.n in
-    let out = c.tell-flow.auto.out in
     record {
       stands = rw (add-one c.loop.counter)
-          (turned c.match-kind.played.answer going s fed (fed_kept fed s.read)
-          (fed_ready fed s.room.writable s.ordered) c.take-taken.ensures c.ask-a.ensures.value c.ask-a.ensures.n_after g
-          c.tell-flow.ensures line numbers out);
+          (turned c.match-kind.played.answer going s fed (fed_kept fed s.read) c.take-taken.ensures
+          c.ask-a.ensures.value c.ask-a.ensures.n_after does c.tell-flow.ensures line numbers refl);
       part_same = c.feed_on-fed.auto.part ∙ i.part_same;
       line_same = line ∙ i.line_same;
       numbers_same = numbers ∙ i.numbers_same;
-      words_same = g.same ∙ i.words_same;
-      out_same = out ∙ i.out_same;
+      words_same = does.same ∙ i.words_same;
     }
 
-pub returns-clause-plays_in : goal.returns-clause-plays_in
-returns-clause-plays_in c = record {
-  book = c.loop.played.book;
-  flow = c.loop.flow;
-  answers = c.loop.out;
-  plays = stopped (omega arith)
-      (λ going. elim c.loop-test.branch [
-        | else-loop-test w ↦ omega arith
-        | then-loop-test+then-not-goes_on w ↦ absurd (never (sym w.if-not-goes_on.true ∙ w.goes_on.ensures.1 going))
-      ])
-      c.loop.invariant.stands;
-  last = c.tell_last.ensures.out_after;
+pub returns : goal.returns
+returns g c = record {
+  plays_in = record {
+    book = c.loop.played.book;
+    flow = c.loop.flow;
+    answers = c.loop.out;
+    plays = stopped (omega arith)
+        (λ going. elim c.loop-test.branch [
+          | else-loop-test w ↦ omega arith
+          | then-loop-test+then-not-goes_on w ↦ absurd (never (sym w.if-not-goes_on.true ∙ w.goes_on.ensures.1 going))
+        ])
+        c.loop.invariant.stands;
+    last = c.tell_last.ensures;
+  };
 }

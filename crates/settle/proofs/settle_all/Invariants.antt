@@ -7,17 +7,24 @@ use Rattle.settle.proofs.Turning.{Stands}
 use Rattle.settle.proofs.settle_all.Given as goal
 
 -- what the program holds
-abbrev pub held : Book → Flow → List ℕ → List ℕ → List ℕ → List ℕ → List ℕ → Held
-held book flow part line numbers words out =
-    record { book = book; flow = flow; part = part; line = line; numbers = numbers; words = words; out = out }
+abbrev pub held : Book → Flow → List ℕ → List ℕ → List ℕ → List ℕ → ℕ → List ℕ → Held
+held book flow part line numbers words places out = record {
+  book = book;
+  flow = flow;
+  part = part;
+  line = line;
+  numbers = numbers;
+  words = words;
+  places = places;
+  out = out;
+}
 
 abbrev pub invariant-loop : goal.invariant-loop
-invariant-loop l = record {
-  stands : Stands (begins l.initial.part l.initial.line l.initial.numbers l.initial.words l.initial.out) l.counter
-      (held l.played.book l.flow l.part l.line l.numbers l.words l.out);
+invariant-loop g l = record {
+  stands : Stands (begins l.initial.part l.initial.line l.initial.numbers l.initial.words g.row.N) l.counter
+      (held l.played.book l.flow l.part l.line l.numbers l.words g.row.N l.out);
   part_same : length l.part ≡ length l.initial.part;
   line_same : length l.line ≡ length l.initial.line;
   numbers_same : length l.numbers ≡ length l.initial.numbers;
   words_same : length l.words ≡ length l.initial.words;
-  out_same : length l.out ≡ length l.initial.out;
 }

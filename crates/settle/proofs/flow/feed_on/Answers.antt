@@ -1,36 +1,29 @@
--- `feed_on` meets its contract.
-use mathlib.Core.Path.{◌≡◌, refl, sym, ◌∙◌}
-use mathlib.Core.Bool.{true, false}
-use borrow.Author.Tests.{le-leb, lt-leb}
-use Rattle.lines.specs.Input.{used_up}
+-- What is done depends on whether all is used up, on whether there is room, and on whether the answers could be written.
+use Rattle.std.proofs.Common.{refl, sym, ◌∙◌}
 use Rattle.settle.specs.Flow.FedOn.{ready, cleared, uncleared, fed, unfed}
 use Rattle.settle.proofs.flow.feed_on.Goals as goal
-use Rattle.settle.proofs.flow.feed_on.Goals.{Then-is_used_up, Else-is_used_up}
 
--- all that was read is used up
-used : (c : Then-is_used_up) → used_up c.args.flow.feed ≡ true
-used c = sym c.is_used_up.ensures ∙ c.if-is_used_up.true
-
--- bytes are left
-unused : (c : Else-is_used_up) → used_up c.args.flow.feed ≡ false
-unused c = sym c.is_used_up.ensures ∙ c.if-is_used_up.false
-
-pub returns-then-write_out : goal.returns-then-write_out
-returns-then-write_out c =
-    fed (used (goal.at.returns-then-write_out c).Then-is_used_up) c.read_on.auto.part c.read_on.ensures
+pub returns-then-hand_out : goal.returns-then-hand_out
+returns-then-hand_out g c =
+    let used = sym c.is_used_up.ensures ∙ c.if-is_used_up.true in
+    rw c.hand_out.ensures (fed used c.read_on.auto.part c.read_on.ensures)
 
 pub returns-then-is_used_up : goal.returns-then-is_used_up
-returns-then-is_used_up c =
-    rw c.failed.ensures (unfed (used (goal.at.returns-then-is_used_up c).Then-is_used_up) refl)
+returns-then-is_used_up g c =
+    let used = sym c.is_used_up.ensures ∙ c.if-is_used_up.true in
+    rw (c.hand_out.ensures, c.failed.ensures) (unfed used refl)
 
-pub returns-then-flow-out : goal.returns-then-flow-out
-returns-then-flow-out c =
-    ready (unused (goal.at.returns-then-flow-out c).Else-is_used_up) (le-leb _ _ c.if-flow-out.true) refl
+pub returns-then-has_room : goal.returns-then-has_room
+returns-then-has_room g c =
+    let unused = sym c.is_used_up.ensures ∙ c.if-is_used_up.false in
+    ready unused (sym c.has_room.ensures ∙ c.if-has_room.true) refl
 
-pub returns-then-write_out-2 : goal.returns-then-write_out-2
-returns-then-write_out-2 c =
-    cleared (unused (goal.at.returns-then-write_out-2 c).Else-is_used_up) (lt-leb _ _ c.if-flow-out.false) refl
+pub returns-then-hand_out-2 : goal.returns-then-hand_out-2
+returns-then-hand_out-2 g c =
+    let unused = sym c.is_used_up.ensures ∙ c.if-is_used_up.false in
+    rw c.hand_out-2.ensures (cleared unused (sym c.has_room.ensures ∙ c.if-has_room.false) refl)
 
 pub returns : goal.returns
-returns c =
-    rw c.failed-2.ensures (uncleared (unused (goal.at.returns c).Else-is_used_up) (lt-leb _ _ c.if-flow-out.false) refl)
+returns g c =
+    let unused = sym c.is_used_up.ensures ∙ c.if-is_used_up.false in
+    rw (c.hand_out-2.ensures, c.failed-2.ensures) (uncleared unused (sym c.has_room.ensures ∙ c.if-has_room.false) refl)

@@ -9,7 +9,7 @@ use Rattle.settle.proofs.flow.read_on.Goals as goal
 pub returns-in-Bytes : goal.returns-in-Bytes
 returns-in-Bytes c =
     read_by _ _ (sym c.in-Bytes.is ∙ c.read_as.ensures)
-    (ap (λ (f : Feed). flow_at f 0 Going) c.filled.ensures)
+    (ap (λ (f : Feed). flow_at f Going) c.filled.ensures)
 
 pub returns-in-Nothing : goal.returns-in-Nothing
 returns-in-Nothing c = read_by _ _ (sym c.in-Nothing.is ∙ c.read_as.ensures) refl
