@@ -1,9 +1,12 @@
 -- What an accepted Enter comes to: what the legs and the ledger require holds, and what it returns.
-use Rattle.std.specs.Prelude.{Some, None}
+use Rattle.std.specs.Prelude.{Some, None, Result, Ok, Err}
+use Rattle.basics.specs.declared.Reason.{Reason}
+use Rattle.basics.specs.Reasons.{answer_of}
 use mathlib.Core.Path.{◌≡◌, refl}
 use Rattle.instructions.specs.declared.Instruction.{Instruction}
 use Rattle.instructions.specs.declared.Entry.{Entry}
 use Rattle.instructions.specs.declared.Leg.{Leg}
+use Rattle.instructions.specs.declared.Legs.{Legs}
 use Rattle.instructions.specs.Legs.{leg_of}
 use Rattle.instructions.specs.Match.{Fit, lowest_fit}
 use Rattle.instructions.specs.Entry.{entry_by, entry_of, Enterable}
@@ -17,12 +20,26 @@ pub record Places (b : Book) (e : Entry) : Type 0 where
   pub enterable : Enterable e b.legs
   pub matchable : Matchable e b.ledger
 
-pub places : (b : Book) (v : Valid b) (i : Instruction) → Good b v (leg_of i) → Places b (entry_of b.legs i)
+pub places : (b : Book) (v : Valid b) (i : Instruction) → Good b v (leg_of i) → Places b (entry_by (leg_of i) (lowest_fit b.legs (leg_of i)))
 places b v i g = by (lowest_fit b.legs (leg_of i)) refl
   where
     by : (f : Fit) → lowest_fit b.legs (leg_of i) ≡ f → Places b (entry_by (leg_of i) f)
     by None q = record { enterable = g.room; matchable = tt }
     by (Some k) q = let r = matched_room b v (leg_of i) k g q in record { enterable = (g.room, r.0); matchable = r }
+
+-- an Enter that comes to an entry was allowed, and the entry is that of the search
+pub record Found (s : Legs) (a : Result Unit Reason) (i : Instruction) (e : Entry) : Type 0 where
+  pub allowed : answer_of a ≡ 0
+  pub found : e ≡ entry_by (leg_of i) (lowest_fit s (leg_of i))
+
+pub found_of : (s : Legs) (a : Result Unit Reason) (i : Instruction) (e : Entry) → entry_of s a i ≡ Ok e → Found s a i e
+found_of s (Ok allowed) i e p = record { allowed = refl; found = cc }
+found_of s (Err reason) i e p = absurd cc
+
+-- an Enter that comes to a refusal was refused for this reason
+pub refused_of : (s : Legs) (a : Result Unit Reason) (i : Instruction) (r : Reason) → entry_of s a i ≡ Err r → a ≡ Err r
+refused_of s (Ok allowed) i r p = absurd cc
+refused_of s (Err reason) i r p = cc
 
 -- what an accepted Enter returns
 pub enters : (b : Book) (new : Leg) (f : Fit) → enter_returns b (entry_by new f) ≡ entered_by b new f

@@ -120,15 +120,18 @@ impl Book {
         };
         let legs = self.legs.count;
         let obligations = self.ledger.count as u64;
-        if let Err(reason) = refusals::enter(&self.setup.closed_days, self.day.today, legs, asked) {
-            return Entered {
-                answer: u64::from(reason),
-                leg: 0,
-                obligation: 0,
-                book: self,
-            };
-        }
-        let entry = self.legs.entry(asked);
+        let allowed = refusals::enter(&self.setup.closed_days, self.day.today, legs, asked);
+        let entry = match self.legs.entry(allowed, asked) {
+            Ok(entry) => entry,
+            Err(reason) => {
+                return Entered {
+                    answer: u64::from(reason),
+                    leg: 0,
+                    obligation: 0,
+                    book: self,
+                };
+            }
+        };
         with_match(&mut self.ledger, &self.legs, entry);
         self.legs.enter(entry, obligations);
         Entered {

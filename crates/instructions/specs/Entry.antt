@@ -1,5 +1,6 @@
 -- Instructions: what an Enter comes to, and what it makes of the legs.
-use Rattle.std.specs.Prelude.{ℕ, ◌+◌, ◌<◌, Some, None}
+use Rattle.std.specs.Prelude.{ℕ, ◌+◌, ◌<◌, Some, None, Result, Ok, Err}
+use Rattle.basics.specs.declared.Reason.{Reason}
 use Rattle.instructions.specs.declared.LegState.TheVariants.{Matched}
 use Rattle.instructions.specs.declared.Instruction.{Instruction}
 use Rattle.instructions.specs.declared.Leg.{Leg}
@@ -14,9 +15,10 @@ abbrev pub entry_by : Leg → Fit → Entry
 entry_by new None = Alone new
 entry_by new (Some k) = Matching new k
 
--- E5 and E10, Enter: what an accepted Enter comes to
-abbrev pub entry_of : Legs → Instruction → Entry
-entry_of s i = entry_by (leg_of i) (lowest_fit s (leg_of i))
+-- A5, Refusals; E5 and E10, Enter: what an Enter comes to, if it is allowed; otherwise the reason why it is refused
+abbrev pub entry_of : Legs → Result Unit Reason → Instruction → Result Entry Reason
+entry_of s (Ok allowed) i = Ok (entry_by (leg_of i) (lowest_fit s (leg_of i)))
+entry_of s (Err reason) i = Err reason
 
 -- E2 and E10, Enter: the legs after an Enter, whose obligation has the number n if there is a match. A leg without a
 -- match waits, and both legs of a match are matched to the obligation.

@@ -2,10 +2,12 @@
 #![tactic(auto)]
 
 ghost use Rattle.std.specs.Prelude.{◌≡◌, ◌≤◌, ◌<◌};
+ghost use Rattle.basics.specs.Reasons.{answer_of};
 ghost use Rattle.instructions.specs.Legs.{most_legs, is_waiting, leg_of, Fitting, no_legs, entered, in_state, fetched_leg, with_state, with_leg};
 ghost use Rattle.instructions.specs.Match.{delivering, receiving, members_cross, same_business, fits, lowest_fit};
 ghost use Rattle.instructions.specs.Entry.{entry_of, with_entry, Enterable, leg_number, obligation_number};
 
+use basics::Reason;
 use calendar::Day;
 
 // The most legs of a book; `most_legs` in specs/.
@@ -199,16 +201,18 @@ impl Legs {
         self.listed().iter().position(|leg| leg.fits_new(new))
     }
 
-    // What an accepted Enter comes to.
-    pub fn entry(&self, asked: Instruction) -> Entry
-        requires { (self.now.count ≤ most_legs) × (Fitting asked) }
-        ensures { result ≡ entry_of self.now asked }
+    // What an Enter comes to, if it is allowed; otherwise the reason why it is refused.
+    pub fn entry(&self, allowed: Result<(), Reason>, asked: Instruction) -> Result<Entry, Reason>
+        requires { (self.now.count ≤ most_legs) × (answer_of allowed ≡ 0 → Fitting asked) }
+        ensures { result ≡ entry_of self.now allowed asked }
     {
+        allowed?;
         let new = asked.leg();
-        match self.lowest_fit(new) {
+        let entry = match self.lowest_fit(new) {
             Some(k) => Entry::Matching(new, k),
             None => Entry::Alone(new),
-        }
+        };
+        Ok(entry)
     }
 
     // The legs after an Enter, whose obligation has this number if there is a match.
