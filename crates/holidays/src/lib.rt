@@ -27,6 +27,13 @@ const MOST_YEARS: u64 = 8;
 // How many closed days a year has.
 const CLOSED_IN_YEAR: usize = 6;
 
+// A year that Target takes.
+#[derive(Clone, Copy)]
+struct Year {
+    number: u64,
+    ghost taken: { Taken number },
+}
+
 // The answer of Target.
 #[derive(Clone, Copy)]
 pub struct DaysWritten {
@@ -48,11 +55,10 @@ fn new_year(year: u64) -> Day
 
 // 1 March of a year. From this day on every year has 306 days.
 #[tactic(auto, using(crate::proofs::Years::next_begins))]
-fn first_of_march(year: u64) -> Day
-    requires { Taken year }
-    ensures { result.0 ≡ date_of year 3 1 }
+fn first_of_march(year: Year) -> Day
+    ensures { result.0 ≡ date_of year.number 3 1 }
 {
-    Day(new_year(year + 1).0 - 306)
+    Day(new_year(year.number + 1).0 - 306)
 }
 
 // The golden number of a year.
@@ -64,27 +70,25 @@ fn golden(year: u64) -> u64
 
 // The epact of a year before its exceptions. Up to the last year that is taken, the sum is above the sun's correction.
 #[tactic(auto, unfolding(crate::specs::Easter::plain_epact, crate::specs::Easter::sun_correction, crate::specs::Easter::moon_correction), using(crate::proofs::Moons::taken_off))]
-fn plain_epact(year: u64) -> u64
-    requires { Taken year }
-    ensures { result ≡ plain_epact year }
+fn plain_epact(year: Year) -> u64
+    ensures { result ≡ plain_epact year.number }
 {
-    let century = year / 100 + 1;
+    let century = year.number / 100 + 1;
     let sun = 3 * century / 4 - 12;
     let moon = (8 * century + 5) / 25 - 5;
-    (11 * golden(year) + 20 + moon - sun) % 30
+    (11 * golden(year.number) + 20 + moon - sun) % 30
 }
 
 // The epact of a year.
 #[tactic(auto, using(crate::proofs::Moons::first_exception, crate::proofs::Moons::second_exception, crate::proofs::Moons::not_25, crate::proofs::Moons::not_golden))]
-fn epact(year: u64) -> u64
-    requires { Taken year }
-    ensures { result ≡ epact year }
+fn epact(year: Year) -> u64
+    ensures { result ≡ epact year.number }
 {
     let plain = plain_epact(year);
     if plain == 24 {
         return 25;
     }
-    if plain == 25 && 11 < golden(year) {
+    if plain == 25 && 11 < golden(year.number) {
         return 26;
     }
     plain
@@ -93,9 +97,8 @@ fn epact(year: u64) -> u64
 // The paschal full moon of a year. The full moon of March comes 43 days after 1 March, less the epact, and 21 March is
 // 20 days after it.
 #[tactic(auto, using(crate::proofs::Years::march_early, crate::proofs::Moons::epact_is))]
-fn full_moon(year: u64) -> Day
-    requires { Taken year }
-    ensures { result.0 ≡ full_moon year }
+fn full_moon(year: Year) -> Day
+    ensures { result.0 ≡ full_moon year.number }
 {
     let march = first_of_march(year);
     let moon = 43 - epact(year);
@@ -107,9 +110,8 @@ fn full_moon(year: u64) -> Day
 
 // Easter of a year. The remainder says how many days after a Sunday the full moon is.
 #[tactic(auto, unfolding(crate::specs::Easter::easter), using(crate::proofs::Moons::moon_most, crate::proofs::Sundays::sunday_after))]
-fn easter(year: u64) -> Day
-    requires { Taken year }
-    ensures { result.0 ≡ easter year }
+fn easter(year: Year) -> Day
+    ensures { result.0 ≡ easter year.number }
 {
     let moon = full_moon(year);
     Day(moon.0 + 7 - (moon.0 + 6) % 7)
@@ -117,13 +119,13 @@ fn easter(year: u64) -> Day
 
 // Writes the closed days of a year from a place on. 1 May is 61 days after 1 March, and 25 December is 299 days after
 // it.
-fn put_year(year: u64, days: &mut [u64], at: usize)
-    requires { (Taken year) × (at + 6 ≤ length days.old) }
-    ensures { days.new ≡ sets days.old at (closed_in_year year) }
+fn put_year(year: Year, days: &mut [u64], at: usize)
+    requires { at + 6 ≤ length days.old }
+    ensures { days.new ≡ sets days.old at (closed_in_year year.number) }
 {
     let march = first_of_march(year);
     let sunday = easter(year);
-    days[at] = new_year(year).0;
+    days[at] = new_year(year.number).0;
     days[at + 1] = sunday.0 - 2;
     days[at + 2] = sunday.0 + 1;
     days[at + 3] = march.0 + 61;
@@ -137,7 +139,10 @@ fn write_years(first: u64, years: usize, days: &mut [u64])
     ensures { days.new ≡ at_front (closed_from first years) days.old }
 {
     for i in 0..years {
-        put_year(first + i as u64, days, CLOSED_IN_YEAR * i);
+        let year = Year {
+            number: first + i as u64,
+        };
+        put_year(year, days, CLOSED_IN_YEAR * i);
     }
 }
 

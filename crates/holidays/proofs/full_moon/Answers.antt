@@ -4,8 +4,8 @@ use Rattle.holidays.proofs.full_moon.Goals as goal
 
 pub returns-then-moon-lt20 : goal.returns-then-moon-lt20
 returns-then-moon-lt20 c =
-    moon_early c.args.year c.requires.from _ _ c.first_of_march-march.ensures c.epact-moon.ensures c.if-moon-lt20.true
+    moon_early c.args.year.number c.args.year.taken.from _ _ c.first_of_march-march.ensures c.epact-moon.ensures c.if-moon-lt20.true
 
 pub returns : goal.returns
 returns c =
-    moon_late c.args.year c.requires.from _ _ c.first_of_march-march.ensures c.epact-moon.ensures c.if-moon-lt20.false
+    moon_late c.args.year.number c.args.year.taken.from _ _ c.first_of_march-march.ensures c.epact-moon.ensures c.if-moon-lt20.false

@@ -25,27 +25,27 @@ sunday_from year march sunday t m e =
 
 pub overflow_sub-days : goal.overflow_sub-days
 overflow_sub-days c =
-    (sunday_from c.args.year _ _ c.requires.0 c.first_of_march-march.ensures c.easter-sunday.ensures).0
+    (sunday_from c.args.year.number _ _ c.args.year.taken c.first_of_march-march.ensures c.easter-sunday.ensures).0
 
 pub overflow_add-days-2 : goal.overflow_add-days-2
 overflow_add-days-2 c =
-    let s = sunday_from c.args.year _ _ c.requires.0 c.first_of_march-march.ensures c.easter-sunday.ensures in
+    let s = sunday_from c.args.year.number _ _ c.args.year.taken c.first_of_march-march.ensures c.easter-sunday.ensures in
     record { fits = omega (arith, s.1) }
 
 pub overflow_add-days-4 : goal.overflow_add-days-4
 overflow_add-days-4 c =
-    record { fits = omega (arith, march_from c.args.year _ c.requires.0 c.first_of_march-march.ensures) }
+    record { fits = omega (arith, march_from c.args.year.number _ c.args.year.taken c.first_of_march-march.ensures) }
 
 pub overflow_add-days-6 : goal.overflow_add-days-6
 overflow_add-days-6 c =
-    record { fits = omega (arith, march_from c.args.year _ c.requires.0 c.first_of_march-march.ensures) }
+    record { fits = omega (arith, march_from c.args.year.number _ c.args.year.taken c.first_of_march-march.ensures) }
 
 pub overflow_add-days-8 : goal.overflow_add-days-8
 overflow_add-days-8 c =
-    record { fits = omega (arith, march_from c.args.year _ c.requires.0 c.first_of_march-march.ensures) }
+    record { fits = omega (arith, march_from c.args.year.number _ c.args.year.taken c.first_of_march-march.ensures) }
 
 pub returns : goal.returns
 returns c =
     six_stores c.args.days.now c.args.at _ _ _ _ _ _
     ∙ ap (sets c.args.days.now c.args.at)
-    (by_march c.args.year c.requires.0.from _ _ _ c.new_year.ensures c.first_of_march-march.ensures c.easter-sunday.ensures)
+    (by_march c.args.year.number c.args.year.taken.from _ _ _ c.new_year.ensures c.first_of_march-march.ensures c.easter-sunday.ensures)
