@@ -37,9 +37,3 @@ pub words_tells : (shown : List ℕ) (lent : ℕ) (words : List ℕ) → length 
     → Tellable (words_told shown lent) words
 unfolding words_told
 words_tells shown lent words h m w = (h, record { few = m; within = w })
-
--- the text of an answer number with results has exactly these numbers
-pub numbers_shown : (shown words : List ℕ) (line : ℕ) → length shown ≤ most_shown
-    → answer_text (numbers_told shown) line words ≡ answer_of shown
-unfolding answer_text numbers_told
-numbers_shown shown words line h = ap answer_of (take_at shown _ (length shown) refl)

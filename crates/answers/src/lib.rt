@@ -189,7 +189,8 @@ fn tell_six<const N: usize>(six: &[u64], out: &mut Output<N>)
     out.answer(six);
 }
 
-// Writes the lines of a Close or an Again.
+// Writes the lines of a Close or an Again. The loop goes by the number of the line, as the definition does: the words
+// after the last line are no line, so they cannot be taken in chunks.
 fn tell_lines<const N: usize>(words: &[u64], count: usize, out: &mut Output<N>)
     requires { (6 * count ≤ length words.now) × (length out.old + 129 * count ≤ N) }
     ensures { out.new ≡ out.old ++ lines_text words.now count }

@@ -30,11 +30,6 @@ count_within (suc n) p = by (p n) (count_within n p)
     by true h = omega arith
     by false h = omega arith
 
--- the count over one number more, by whether that number passes
-pub count_next : (n : ℕ) (p : ℕ → Bool) (t : Bool) → p n ≡ t → count_below (n + 1) p ≡ more t (count_below n p)
-unfolding count_below
-count_next n p t e = rw (add-one, e)
-
 -- two tests that agree below n count the same
 pub count_same : (n : ℕ) (p q : ℕ → Bool) → ((k : ℕ) → k < n → p k ≡ q k) → count_below n p ≡ count_below n q
 unfolding count_below

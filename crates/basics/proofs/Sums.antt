@@ -33,15 +33,6 @@ sum_most (x ∷ xs) b h =
     let g = suc-mul (length xs) b in
     omega arith
 
--- the sum from a place on is the element at that place and the sum after it
-pub rest_of : (xs : List ℕ) (i : ℕ) → i < length xs → sum (drop i xs) ≡ get_or xs i 0 + sum (drop (i + 1) xs)
-unfolding total
-rest_of xs i h = rw (add-one, drop-cons xs i 0 h)
-
-pub none_left : (xs : List ℕ) (i : ℕ) → length xs ≤ i → sum (drop i xs) ≡ 0
-unfolding total
-none_left xs i h = rw (drop_of_length-le xs {i = i} h)
-
 -- how a sum changes with one element
 pub total_set : {A : Type 0} (f : A → ℕ) (xs : List A) (i : ℕ) (v d : A) → i < length xs →
     total f (set xs i v) + f (get_or xs i d) ≡ total f xs + f v
@@ -49,9 +40,3 @@ unfolding total
 total_set f [] i v d h = absurd (omega arith)
 total_set f (x ∷ xs) zero v d h = omega arith
 total_set f (x ∷ xs) (suc i) v d h = omega (arith, total_set f xs i v d (omega arith))
-
--- a sum of zeros is 0
-pub total_none : {A : Type 0} (f : A → ℕ) {xs : List A} → Every (λ x. f x ≡ 0) xs → total f xs ≡ 0
-unfolding total
-total_none f nobody = refl
-total_none f (also e es) = omega (arith, total_none f es)

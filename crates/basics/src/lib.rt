@@ -96,7 +96,7 @@ pub fn answer_of<T>(done: &Result<T, Reason>) -> u64
     }
 }
 
-// Returns the smaller of two numbers.
+// Returns the smaller of two numbers, as the `min` of the library does. Each public function stays, and so does this one.
 pub fn smaller(a: u64, b: u64) -> u64
     ensures { result ≡ min a b }
 {

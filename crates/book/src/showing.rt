@@ -60,7 +60,8 @@ impl Book {
         }
     }
 
-    // Looks for a late obligation that a member sells; the search stops at the first it meets.
+    // Looks for a late obligation that a member sells; the search stops at the first it meets. S1 of docs/CODE.md names
+    // the form of the loop.
     fn late_of(&self, member: u64) -> u64
         requires { self.now.ledger.count ≤ most_obligations }
         ensures { LooksAt self.now member result }

@@ -160,10 +160,6 @@ stages_beside d age offers n o =
     rw (stages_obligation d age offers n o) (record { deal = q.deal ∙ p.deal; stage = q.stage ∙ p.stage; wishes = q.wishes ∙ p.wishes })
 
 -- ---- how many lines
-pub compensated_one : (price n : ℕ) (o : Obligation) → (o.parts.outstanding ≡ 0 → ⊥) → length (compensated price n o).lines ≡ 1
-unfolding compensated
-compensated_one price n o f = rw (ne_eqb o.parts.outstanding 0 f)
-
 -- no Close decides on both a notice and a compensation for one obligation
 not_both : (terms : Terms) (age : ℕ) (o : Obligation) → ValidTerms terms → (measures_at terms age o).notice ≡ true → (measures_at terms age o).compensation ≡ true → ⊥
 unfolding measures_at
@@ -179,14 +175,6 @@ extras_most true false price n o r h = omega arith
 extras_most false true price n o r h =
     pick_case (λ (m : Made). 0 + length m.lines ≤ 1) (eqb r.parts.outstanding 0) _ _ (λ g. omega arith) (λ g. omega arith)
 extras_most false false price n o r h = omega arith
-
-pub bought_in_most : (comes : Bool) (offers : List Offer) (n : ℕ) (o : Obligation) →
-    length (buy_in_at comes offers n o).lines ≤ length (given n o.parts.outstanding offers)
-unfolding buy_in_at
-bought_in_most comes offers n o =
-    pick_case (λ (m : Made). length m.lines ≤ length (given n o.parts.outstanding offers)) comes _ _
-    (λ e. omega (arith, bought_length n (given n o.parts.outstanding offers) o))
-    (λ e. omega arith)
 
 pub stages_most : (d : DayEnd) (age : ℕ) (offers : List Offer) (n : ℕ) (o : Obligation) → ValidTerms d.setup.terms →
     length (stages d age offers n o).lines ≤ 2 + length (given n o.parts.outstanding offers)

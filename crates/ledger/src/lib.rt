@@ -111,7 +111,7 @@ pub struct Sides {
     pub creditor: u8,
 }
 
-// The answer to a number that names an obligation.
+// The answer to a number that names an obligation. It is no `Option`, because S8 of docs/CODE.md names these two cases.
 #[derive(Clone, Copy)]
 pub enum Fetched {
     Found(Obligation),

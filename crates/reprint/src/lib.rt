@@ -83,7 +83,8 @@ impl LastClose {
         }
     }
 
-    // Keeps the first count lines of a list of words.
+    // Keeps the first count lines of a list of words. `i` is the number of the line that is read and of its row, so the
+    // loop goes by it.
     pub fn of(lines: &[u64], count: usize) -> LastClose
         requires { Keepable count lines.now }
         ensures value { result ≡ kept_from (lines_read count lines.now) }

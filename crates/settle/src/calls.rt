@@ -16,9 +16,10 @@ use lines::Taken;
 use reading::{Line, Name, Shape};
 
 // What a line asks. The first six numbers of the buffer are copied for every call; a call with fewer arguments does not
-// use the rest, which may be left from earlier lines. `from` and `to` are the places of the list of an open or a month.
-// `lent` says how many words a close, an again, a month or a target is lent, and `fill` with what value they are
-// filled.
+// use the rest, which may be left from earlier lines. They are six fields and no array, so that the definitions name
+// each of them and need no value for a place that is not there. `from` and `to` are the places of the list of an open
+// or a month. `lent` says how many words a close, an again, a month or a target is lent, and `fill` with what value
+// they are filled.
 #[derive(Clone, Copy)]
 pub struct Asked {
     pub line: Line,

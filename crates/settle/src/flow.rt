@@ -30,7 +30,7 @@ pub enum Course {
     Failed,
 }
 
-// What a read brought.
+// What a read brought. It is no `Result`, because the end of the input is a third case and has a course of its own.
 #[derive(Clone, Copy)]
 enum Read {
     Bytes(usize),
@@ -56,7 +56,7 @@ pub fn start() -> Flow
 }
 
 // Writes a piece of text. A write that a signal interrupts before it has taken a byte counts as one that failed, so it is
-// not tried again.
+// not tried again. The library's `write_all` would try it again, so the loop stands here.
 fn write_all(mut output: Stdout, text: &[u8]) -> io::Result<()> {
     let mut done = 0;
     while done < text.len() {

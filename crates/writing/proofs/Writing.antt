@@ -59,8 +59,3 @@ labelled_most label n =
 pub no_call_most : (line : ℕ) → length (no_call_of line) ≤ 28
 unfolding no_call_of
 no_call_most line = labelled_most _ line
-
--- the last line of the output has at most 25 bytes
-pub end_most : (lines : ℕ) → length (end_of lines) ≤ 25
-unfolding end_of
-end_most lines = labelled_most _ lines

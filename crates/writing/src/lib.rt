@@ -49,7 +49,8 @@ fn put_pair(places: &mut [u8; MOST_DIGITS], before: usize, n: u64) -> usize
 }
 
 // Puts the digits of a number into the last of these places, and answers the place of the first: the last two digits,
-// and ahead of them those of the number's hundredth part.
+// and ahead of them those of the number's hundredth part. The library's `write!` would print the same digits, but the
+// faults in must-fail/ exchange and leave out digits, so they are computed here.
 fn put_digits(places: &mut [u8; MOST_DIGITS], n: u64) -> usize
     ensures place { result ≤ 20 }
     ensures stands { drop result places.new ≡ digits_of n }

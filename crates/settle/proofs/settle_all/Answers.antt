@@ -131,8 +131,7 @@ ask-a-requires g c =
 
 pub tell-flow-requires : goal.tell-flow-requires
 tell-flow-requires g c =
-    let s = c.loop.invariant.stands in
-    (
+    let s = c.loop.invariant.stands in (
       search rules,
       ((given g (goal.at.tell-flow-requires g c).Joined-kind).tells, (fed_ready c.feed_on-fed.ensures s.room.writable s.ordered).room),
     )
