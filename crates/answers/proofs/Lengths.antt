@@ -15,6 +15,11 @@ pub balance_most : (answer : ℕ) (cents : ℤ) → length (balance_text answer 
 unfolding balance_text
 balance_most answer cents = simp length-append (omega (arith, digits_most answer, signed_most cents))
 
+-- a line of a Close
+pub six_most : (ws : List ℕ) → length (six_text (take 6 ws)) ≤ 129
+unfolding six_text
+six_most ws = omega (arith, line_most (take 6 ws), length-take 6 ws)
+
 -- the text of k + 1 lines is that of the first k, and one more line
 pub lines_more : (words : List ℕ) (k : ℕ)
     → lines_text words (k + 1) ≡ lines_text words k ++ six_text (take 6 (drop (6 * k) words))
@@ -32,6 +37,16 @@ lines_most words (suc k) =
       lines_most words k,
       six_most (drop (6 * k) words),
     )
+
+-- the line that says how many words are kept
+pub kept_most : (n : ℕ) → length (kept_text n) ≤ 28
+unfolding kept_text
+kept_most n = labelled_most _ n
+
+-- numbers and the words that were lent: at most 21 bytes for each
+pub words_most : (shown words : List ℕ) → length (words_text shown words) ≤ 21 * length shown + 21 * length words + 1
+unfolding words_text
+words_most shown words = simp length-append (omega (arith, text_most shown, spaced_most words))
 
 -- the answer to a Close or an Again fits its room
 closed_most : (r : Reported) (words : List ℕ) → WithinLent r words → length (closed_text r words) ≤ most_answer

@@ -1,9 +1,7 @@
 -- Which answers can be written.
-use Rattle.std.proofs.Common.{◌≡◌, ℕ, ◌*◌, ◌≤◌, List, refl, ap, length}
-use Rattle.std.proofs.Math.Seq.{take_at}
+use Rattle.std.proofs.Common.{ℕ, ◌*◌, ◌≤◌, List, length}
 use Rattle.std.specs.Prelude.{ℤ}
-use Rattle.writing.specs.Answers.{answer_of}
-use Rattle.answers.specs.Text.{most_lent, Tellable, answer_text}
+use Rattle.answers.specs.Text.{most_lent, Tellable}
 use Rattle.answers.specs.Told.{most_shown, nothing, no_call, numbers_told, balance_told, closed_told, words_told}
 
 -- the answer to a comment can be written

@@ -4,12 +4,10 @@ use native.Mathlib.Nat.{zero-add}
 use native.Mathlib.Numerals.{add-one}
 use native.Mathlib.Omega.{arith}
 use mathlib.Core.Path.{◌≡◌, refl, sym, ap, ◌∙◌}
-use mathlib.Core.Logic.{⊎_elim}
 use mathlib.Core.List.{List, [], ◌∷◌, ◌++◌}
-use lib.ListN.{length, get_or, set}
-use lib.Seq.{get_or-set_same, get_or-set_other, ext_get_or}
+use lib.ListN.{length, get_or}
+use lib.Seq.{ext_get_or}
 use Rattle.basics.specs.Lists.{table_from, table}
-use Rattle.basics.proofs.Cases.{last_or_below}
 
 table_from_length : {A : Type 0} (k n : ℕ) (f : ℕ → A) → length (table_from k n f) ≡ n
 unfolding table_from

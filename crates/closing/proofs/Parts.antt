@@ -7,7 +7,7 @@ use mathlib.Core.Bool.{Bool, true, false}
 use mathlib.Core.List.{List, ◌++◌}
 use lib.Dec.{eqb}
 use lib.ListN.{length, take, length-append}
-use borrow.Author.Tests.{eqb-true, eq-eqb, ne_eqb}
+use borrow.Author.Tests.{eqb-true, eq-eqb}
 use Rattle.basics.proofs.Cases.{pick_case}
 use Rattle.amounts.specs.Amounts.{most_close_price}
 use Rattle.offers.specs.declared.Offer.{Offer}
@@ -175,6 +175,14 @@ extras_most true false price n o r h = omega arith
 extras_most false true price n o r h =
     pick_case (λ (m : Made). 0 + length m.lines ≤ 1) (eqb r.parts.outstanding 0) _ _ (λ g. omega arith) (λ g. omega arith)
 extras_most false false price n o r h = omega arith
+
+pub bought_in_most : (comes : Bool) (offers : List Offer) (n : ℕ) (o : Obligation) →
+    length (buy_in_at comes offers n o).lines ≤ length (given n o.parts.outstanding offers)
+unfolding buy_in_at
+bought_in_most comes offers n o =
+    pick_case (λ (m : Made). length m.lines ≤ length (given n o.parts.outstanding offers)) comes _ _
+    (λ e. omega (arith, bought_length n (given n o.parts.outstanding offers) o))
+    (λ e. omega arith)
 
 pub stages_most : (d : DayEnd) (age : ℕ) (offers : List Offer) (n : ℕ) (o : Obligation) → ValidTerms d.setup.terms →
     length (stages d age offers n o).lines ≤ 2 + length (given n o.parts.outstanding offers)

@@ -8,7 +8,7 @@ use lib.ListN.{length, get_or, take, length-append}
 use lib.Seq.{take-suc}
 use Rattle.writing.specs.Digits.{digits_of}
 use Rattle.writing.specs.Words.{space, spaced, joined}
-use Rattle.writing.specs.Answers.{text_of, answer_of, labelled, no_call_of, end_of}
+use Rattle.writing.specs.Answers.{text_of, answer_of, labelled, no_call_of}
 use Rattle.writing.proofs.Digits.{digits_most}
 
 -- the text of words and then others, with a space in front of each
