@@ -1,7 +1,6 @@
 // Money: values, penalties, compensation, cash for a part, charges, the matching tolerance, the cap, and quotients of
 // products. All amounts are cents. The `requires` clauses state the limits of refusals 2 and 3, within which nothing
-// overflows. They stand in each contract, because the pages name these functions, and a type with a limit would ask more
-// of whoever calls them.
+// overflows.
 #![tactic(auto)]
 
 ghost use Rattle.std.specs.Prelude.{◌≡◌, ◌+◌, ◌-◌, ◌*◌, ◌/◌, ◌≤◌, ◌<◌, ◌^◌};

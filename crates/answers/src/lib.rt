@@ -11,8 +11,7 @@ use writing::{Output, SPACE};
 // The most bytes of an answer: 22 for each of the most words that are lent, and 100 more.
 pub const MOST_ANSWER: usize = 90_212;
 
-// The most numbers that an answer shows: those of a Status. The four functions that take such numbers are lent them as
-// a list, so each says how long it may be.
+// The most numbers that an answer shows: those of a Status.
 pub const MOST_SHOWN: usize = 7;
 
 // The numbers that an answer shows. They have no model that hides the places, because the check does not cover the loop

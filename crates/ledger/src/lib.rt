@@ -36,7 +36,7 @@ pub const FEWEST_WORDS: usize = WORDS_IN_LINE * MOST_LINES;
 pub const MOST_SUPPLIER: u64 = 999;
 
 // The stages of an obligation's life: at which age notice is given, after which age the house buys in, and the age of
-// the last day. That they rise is no invariant of the type, because the definitions build the record and compare it.
+// the last day.
 #[derive(Clone, Copy)]
 pub struct Terms {
     pub notice: ClearingDays,

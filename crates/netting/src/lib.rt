@@ -90,8 +90,7 @@ fn portions_of(collected: u64, claims: &[u64; MEMBER_COUNT]) -> Portions
 }
 
 // Says whether member k comes before member m for a cent: the larger remainder comes first, and of two alike the lower
-// member. A member stays a number below 32 here and in the next three contracts: a type for it would be taken apart again
-// at each place of an array.
+// member.
 #[tactic(auto, unfolding(crate::specs::Shares::comes_before))]
 fn comes_before(parts: &[Divided; MEMBER_COUNT], k: usize, m: usize) -> bool
     requires { (k < member_count) × (m < member_count) }

@@ -19,7 +19,7 @@ use reading::{Line, Name, Shape};
 // use the rest, which may be left from earlier lines. They are six fields and no array, so that the definitions name
 // each of them and need no value for a place that is not there. `from` and `to` are the places of the list of an open
 // or a month. `lent` says how many words a close, an again, a month or a target is lent, and `fill` with what value
-// they are filled. The definitions build the record, so what is known of its places stands in the contracts.
+// they are filled.
 #[derive(Clone, Copy)]
 pub struct Asked {
     pub line: Line,
