@@ -1,5 +1,7 @@
 -- Instructions: the calls Enter, Withdraw, Cancel and Deliver.
-use Rattle.std.specs.Prelude.{ℕ, ◌<◌, true, not, List, [], ◌∷◌, eqb, Option, Some, None}
+use Rattle.std.specs.Prelude.{ℕ, ◌<◌, true, not, List, [], ◌∷◌, eqb, Option, Some, None, Result, Ok, Err}
+use Rattle.basics.specs.declared.Reason.{Reason}
+use Rattle.basics.specs.Reasons.{answer_of}
 use Rattle.basics.specs.Refusals.{Refusal, refuse, answer, outcome}
 use Rattle.calendar.specs.declared.Day.{Day}
 use Rattle.instructions.specs.declared.Leg.{Leg}
@@ -42,24 +44,27 @@ obligation_of new old =
       day = new.day;
     })
 
--- E8, Enter: the ledger after an Enter. A leg that matches one of these legs makes an obligation.
-abbrev pub with_match : Legs → Entry → Ledger → Ledger
-with_match legs (Alone new) l = l
-with_match legs (Matching new k) l = with_new (obligation_of new (leg_at legs k)) l
+-- E8, Enter: the ledger after an Enter. A leg that matches one of these legs makes an obligation. A refused Enter
+-- leaves the ledger as it is (A5).
+abbrev pub with_match : Legs → Result Entry Reason → Ledger → Ledger
+with_match legs (Err reason) l = l
+with_match legs (Ok (Alone new)) l = l
+with_match legs (Ok (Matching new k)) l = with_new (obligation_of new (leg_at legs k)) l
 
 -- what is required so that the ledger can take the obligation of a match
-abbrev pub Matchable : Entry → Ledger → Type 0
-Matchable (Alone new) l = Unit {0}
-Matchable (Matching new k) l = (k < most_legs) × (l.count < most_obligations)
+abbrev pub Matchable : Result Entry Reason → Ledger → Type 0
+Matchable (Err reason) l = Unit {0}
+Matchable (Ok (Alone new)) l = Unit {0}
+Matchable (Ok (Matching new k)) l = (k < most_legs) × (l.count < most_obligations)
 
 -- E8 and E10, Enter: the book after an Enter
-abbrev pub entered_book : Book → Entry → Book
+abbrev pub entered_book : Book → Result Entry Reason → Book
 entered_book b e = with_legs (with_entry e b.ledger.count b.legs) (with_ledger (with_match b.legs e b.ledger) b)
 
--- E11, Enter: what an accepted Enter returns
-abbrev pub enter_returns : Book → Entry → Entered
+-- E11, Enter; A5, Refusals: what an Enter that comes to this returns
+abbrev pub enter_returns : Book → Result Entry Reason → Entered
 enter_returns b e = record {
-  answer = 0;
+  answer = answer_of e;
   leg = leg_number e b.legs.count;
   obligation = obligation_number e b.ledger.count;
   book = entered_book b e;
@@ -67,11 +72,11 @@ enter_returns b e = record {
 
 -- E10 and E11, Enter: what Enter returns if no leg fits: the new one waits
 unfoldable pub entered_alone : Book → Leg → Entered
-entered_alone b new = enter_returns b (Alone new)
+entered_alone b new = enter_returns b (Ok (Alone new))
 
 -- E8, E10 and E11, Enter: what Enter returns if leg k fits: both are matched to a new obligation
 unfoldable pub entered_with : Book → Leg → ℕ → Entered
-entered_with b new k = enter_returns b (Matching new k)
+entered_with b new k = enter_returns b (Ok (Matching new k))
 
 -- E10, Enter: what an accepted Enter returns, by the search for the leg that the new one matches
 abbrev pub entered_by : Book → Leg → Fit → Entered

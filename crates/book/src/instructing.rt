@@ -82,14 +82,14 @@ fn deliver_change(
 }
 
 // The ledger after an Enter. If the new leg matches one of these legs, it has one obligation more.
-fn with_match(ledger: &mut Ledger, legs: &Legs, entry: Entry)
-    requires { Matchable entry ledger.old }
-    ensures { ledger.new ≡ with_match legs.now entry ledger.old }
+fn with_match(ledger: &mut Ledger, legs: &Legs, entry: &Result<Entry, Reason>)
+    requires { Matchable entry.now ledger.old }
+    ensures { ledger.new ≡ with_match legs.now entry.now ledger.old }
 {
     match entry {
-        Entry::Alone(_) => {}
-        Entry::Matching(new, k) => {
-            ledger.obligations[ledger.count] = obligation_of(new, legs.rows[k]);
+        Err(_) | Ok(Entry::Alone(_)) => {}
+        Ok(Entry::Matching(new, k)) => {
+            ledger.obligations[ledger.count] = obligation_of(*new, legs.rows[*k]);
             ledger.count += 1;
         }
     }
@@ -121,23 +121,16 @@ impl Book {
         let legs = self.legs.count;
         let obligations = self.ledger.count as u64;
         let allowed = refusals::enter(&self.setup.closed_days, self.day.today, legs, asked);
-        let entry = match self.legs.entry(allowed, asked) {
-            Ok(entry) => entry,
-            Err(reason) => {
-                return Entered {
-                    answer: u64::from(reason),
-                    leg: 0,
-                    obligation: 0,
-                    book: self,
-                };
-            }
-        };
-        with_match(&mut self.ledger, &self.legs, entry);
-        self.legs.enter(entry, obligations);
+        let entry = self.legs.entry(allowed, asked);
+        with_match(&mut self.ledger, &self.legs, &entry);
+        self.legs.enter(&entry, obligations);
+        let answer = basics::answer_of(&entry);
+        let leg = Entry::leg_number(&entry, legs as u64);
+        let obligation = Entry::obligation_number(&entry, obligations);
         Entered {
-            answer: 0,
-            leg: entry.leg_number(legs as u64),
-            obligation: entry.obligation_number(obligations),
+            answer,
+            leg,
+            obligation,
             book: self,
         }
     }

@@ -21,22 +21,28 @@ entry_of s (Ok allowed) i = Ok (entry_by (leg_of i) (lowest_fit s (leg_of i)))
 entry_of s (Err reason) i = Err reason
 
 -- E2 and E10, Enter: the legs after an Enter, whose obligation has the number n if there is a match. A leg without a
--- match waits, and both legs of a match are matched to the obligation.
-abbrev pub with_entry : Entry → ℕ → Legs → Legs
-with_entry (Alone new) n s = with_leg new s
-with_entry (Matching new k) n s = with_leg (in_state (Matched n) new) (with_state k (Matched n) s)
+-- match waits, and both legs of a match are matched to the obligation. A refused Enter leaves the legs as they are
+-- (A5).
+abbrev pub with_entry : Result Entry Reason → ℕ → Legs → Legs
+with_entry (Err reason) n s = s
+with_entry (Ok (Alone new)) n s = with_leg new s
+with_entry (Ok (Matching new k)) n s = with_leg (in_state (Matched n) new) (with_state k (Matched n) s)
 
 -- what is required so that the legs can take what an Enter comes to
-abbrev pub Enterable : Entry → Legs → Type 0
-Enterable (Alone new) s = s.count < most_legs
-Enterable (Matching new k) s = (s.count < most_legs) × (k < most_legs)
+abbrev pub Enterable : Result Entry Reason → Legs → Type 0
+Enterable (Err reason) s = Unit {0}
+Enterable (Ok (Alone new)) s = s.count < most_legs
+Enterable (Ok (Matching new k)) s = (s.count < most_legs) × (k < most_legs)
 
--- E11, Enter: the number of the new leg, which is how many legs there were before
-abbrev pub leg_number : Entry → ℕ → ℕ
-leg_number (Alone new) legs = legs
-leg_number (Matching new k) legs = legs
+-- E11, Enter; A5, Refusals: the number of the new leg, which is how many legs there were before; 0 for a refused Enter
+abbrev pub leg_number : Result Entry Reason → ℕ → ℕ
+leg_number (Err reason) legs = 0
+leg_number (Ok (Alone new)) legs = legs
+leg_number (Ok (Matching new k)) legs = legs
 
--- E11, Enter: the number of the new obligation plus 1, if there were this many obligations before, or 0 without a match
-abbrev pub obligation_number : Entry → ℕ → ℕ
-obligation_number (Alone new) obligations = 0
-obligation_number (Matching new k) obligations = obligations + 1
+-- E11, Enter; A5, Refusals: the number of the new obligation plus 1, if there were this many obligations before, or 0
+-- without a match and for a refused Enter
+abbrev pub obligation_number : Result Entry Reason → ℕ → ℕ
+obligation_number (Err reason) obligations = 0
+obligation_number (Ok (Alone new)) obligations = 0
+obligation_number (Ok (Matching new k)) obligations = obligations + 1

@@ -215,16 +215,18 @@ impl Legs {
         Ok(entry)
     }
 
-    // The legs after an Enter, whose obligation has this number if there is a match.
-    pub fn enter(&mut self, entry: Entry, obligation: u64)
-        requires { (Enterable entry self.old) × (obligation ≤ 255) }
-        ensures { self.new ≡ with_entry entry obligation self.old }
+    // The legs after an Enter, whose obligation has this number if there is a match. A refused Enter leaves them as they
+    // are.
+    pub fn enter(&mut self, entry: &Result<Entry, Reason>, obligation: u64)
+        requires { (Enterable entry.now self.old) × (obligation ≤ 255) }
+        ensures { self.new ≡ with_entry entry.now obligation self.old }
     {
         match entry {
-            Entry::Alone(new) => self.push(new),
-            Entry::Matching(new, k) => {
+            Err(_) => {}
+            Ok(Entry::Alone(new)) => self.push(*new),
+            Ok(Entry::Matching(new, k)) => {
                 let state = LegState::Matched(obligation as u8);
-                self.set_state(k as u64, state);
+                self.set_state(*k as u64, state);
                 self.push(new.in_state(state));
             }
         }
@@ -232,24 +234,27 @@ impl Legs {
 }
 
 impl Entry {
-    // The number of the new leg, where there were so many legs before. It is told for each case, as S9 of docs/CODE.md has
-    // it.
-    pub fn leg_number(self, legs: u64) -> u64
-        ensures { result ≡ leg_number self legs }
+    // The number of the new leg, where there were so many legs before; 0 if the Enter is refused. It is told for each case,
+    // as S9 of docs/CODE.md has it.
+    pub fn leg_number(entry: &Result<Entry, Reason>, legs: u64) -> u64
+        ensures { result ≡ leg_number entry.now legs }
     {
-        match self {
-            Entry::Alone(_) | Entry::Matching(_, _) => legs,
+        match entry {
+            Err(_) => 0,
+            Ok(Entry::Alone(_)) => legs,
+            Ok(Entry::Matching(_, _)) => legs,
         }
     }
 
     // The number of the new obligation plus 1, where there were so many obligations before; 0 if there is no new one.
-    pub fn obligation_number(self, obligations: u64) -> u64
+    pub fn obligation_number(entry: &Result<Entry, Reason>, obligations: u64) -> u64
         requires { obligations ≤ 255 }
-        ensures { result ≡ obligation_number self obligations }
+        ensures { result ≡ obligation_number entry.now obligations }
     {
-        match self {
-            Entry::Alone(_) => 0,
-            Entry::Matching(_, _) => obligations + 1,
+        match entry {
+            Err(_) => 0,
+            Ok(Entry::Alone(_)) => 0,
+            Ok(Entry::Matching(_, _)) => obligations + 1,
         }
     }
 }
