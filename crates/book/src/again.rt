@@ -13,13 +13,17 @@ impl Book {
         ensures lines_after { lines.new ≡ again_words self lines.old }
         ensures valid { Valid result.book }
     {
-        if let Err(reason) = refusals::again(self.day.has_closed, lines.len()) {
-            return Closed::refused(self, reason);
+        let last = self.last;
+        let allowed = refusals::again(self.day.has_closed, lines.len());
+        let answer = basics::answer_of(&allowed);
+        let mut count = 0;
+        if answer == 0 {
+            last.write(lines);
+            count = last.count;
         }
-        self.last.write(lines);
         Closed {
-            answer: 0,
-            count: self.last.count,
+            answer,
+            count,
             book: self,
         }
     }

@@ -27,7 +27,8 @@ impl Book {
             return Err(Reason::NotFound);
         };
         let today = self.day.today;
-        let age = self.setup.closed_days.age_at(found.deal.day, today);
+        let closed_days = self.setup.closed_days;
+        let age = closed_days.age_at(found.deal.day, today);
         refusals::offer_of(
             self.setup.terms,
             today,
@@ -44,17 +45,20 @@ impl Book {
         ensures value { result ≡ offer self obligation supplier quantity price }
         ensures valid { Valid result.book }
     {
-        if let Err(reason) = self.may_offer(obligation, supplier, quantity, price) {
-            return Done::refused(self, reason);
+        let mut held = self.ledger.offers;
+        let allowed = self.may_offer(obligation, supplier, quantity, price);
+        let answer = basics::answer_of(&allowed);
+        if answer == 0 {
+            held.insert(Offer {
+                obligation: obligation as u16,
+                supplier: supplier as u16,
+                quantity: quantity as u32,
+                price: price as u32,
+            });
         }
-        self.ledger.offers.insert(Offer {
-            obligation: obligation as u16,
-            supplier: supplier as u16,
-            quantity: quantity as u32,
-            price: price as u32,
-        });
+        self.ledger.offers = held;
         Done {
-            answer: 0,
+            answer,
             book: self,
         }
     }

@@ -20,20 +20,24 @@ impl Book {
         if let Err(reason) = refusals::close_in(price, lines.len()) {
             return Closed::refused(self, reason);
         }
+        let setup = self.setup;
+        let rates = self.rates;
         let today = self.day.today;
-        let Some(next) = self.setup.closed_days.next_after(today) else {
+        let Some(next) = setup.closed_days.next_after(today) else {
             return Closed::refused(self, Reason::NoNextDay);
         };
-        let Some(row) = self.rates.in_force(today) else {
+        let Some(row) = rates.in_force(today) else {
             return Closed::refused(self, Reason::NoRate);
         };
         let end = DayEnd {
-            setup: self.setup,
+            setup,
             today,
             price,
             rate: row.rate as u64,
         };
-        let count = closing::close(&mut self.ledger, &end, lines);
+        let mut ledger = self.ledger;
+        let count = closing::close(&mut ledger, &end, lines);
+        self.ledger = ledger;
         self.last = LastClose::of(lines, count);
         self.day = BookDay {
             today: next,

@@ -86,13 +86,15 @@ fn with_match(ledger: &mut Ledger, legs: &Legs, entry: &Result<Entry, Reason>)
     requires { Matchable entry.now ledger.old }
     ensures { ledger.new ≡ with_match legs.now entry.now ledger.old }
 {
+    let mut rows = ledger.obligations;
     match entry {
         Err(_) | Ok(Entry::Alone(_)) => {}
         Ok(Entry::Matching(new, k)) => {
-            ledger.obligations[ledger.count] = obligation_of(*new, legs.rows[*k]);
+            rows[ledger.count] = obligation_of(*new, legs.rows[*k]);
             ledger.count += 1;
         }
     }
+    ledger.obligations = rows;
 }
 
 impl Book {
@@ -118,14 +120,17 @@ impl Book {
             amount,
             day,
         };
-        let legs = self.legs.count;
+        let mut legs = self.legs;
+        let closed_days = self.setup.closed_days;
+        let number = legs.count;
         let obligations = self.ledger.count as u64;
-        let allowed = refusals::enter(&self.setup.closed_days, self.day.today, legs, asked);
-        let entry = self.legs.entry(allowed, asked);
-        with_match(&mut self.ledger, &self.legs, &entry);
-        self.legs.enter(&entry, obligations);
+        let allowed = refusals::enter(&closed_days, self.day.today, number, asked);
+        let entry = legs.entry(allowed, asked);
+        with_match(&mut self.ledger, &legs, &entry);
+        legs.enter(&entry, obligations);
+        self.legs = legs;
         let answer = basics::answer_of(&entry);
-        let leg = Entry::leg_number(&entry, legs as u64);
+        let leg = Entry::leg_number(&entry, number as u64);
         let obligation = Entry::obligation_number(&entry, obligations);
         Entered {
             answer,
@@ -141,12 +146,15 @@ impl Book {
         ensures value { result ≡ withdraw self leg member }
         ensures valid { Valid result.book }
     {
-        if let Err(reason) = may_withdraw(&self.legs, leg, member) {
-            return Done::refused(self, reason);
+        let mut legs = self.legs;
+        let allowed = may_withdraw(&legs, leg, member);
+        let answer = basics::answer_of(&allowed);
+        if answer == 0 {
+            legs.set_state(leg, LegState::Withdrawn);
         }
-        self.legs.set_state(leg, LegState::Withdrawn);
+        self.legs = legs;
         Done {
-            answer: 0,
+            answer,
             book: self,
         }
     }

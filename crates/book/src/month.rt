@@ -16,12 +16,8 @@ impl Book {
         ensures valid { Valid result.book }
         ensures collected_stays { collected.exit.now ≡ collected.entry.now }
     {
-        let done = payments::settle_month(
-            &self.ledger.accounts,
-            self.day.close_since,
-            collected,
-            payouts,
-        );
+        let accounts = self.ledger.accounts;
+        let done = payments::settle_month(&accounts, self.day.close_since, collected, payouts);
         if done.is_ok() {
             self.ledger.clear();
             self.day.close_since = false;

@@ -14,13 +14,15 @@ impl Book {
         ensures value { result ≡ rated self start rate }
         ensures valid { Valid result.book }
     {
-        if let Err(reason) = refusals::rate(self.day.today, &self.rates, start, rate) {
+        let mut rates = self.rates;
+        if let Err(reason) = refusals::rate(self.day.today, &rates, start, rate) {
             return Done::refused(self, reason);
         }
-        self.rates.enter(RateRow {
+        rates.enter(RateRow {
             start: start.stored(),
             rate: rate as u16,
         });
+        self.rates = rates;
         Done {
             answer: 0,
             book: self,

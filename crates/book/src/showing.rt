@@ -53,9 +53,10 @@ impl Book {
                 book: self,
             };
         }
+        let accounts = self.ledger.accounts;
         Balance {
             answer: 0,
-            cents: self.ledger.accounts[member as usize],
+            cents: accounts[member as usize],
             book: self,
         }
     }
@@ -66,12 +67,13 @@ impl Book {
         requires { self.now.ledger.count ≤ most_obligations }
         ensures { LooksAt self.now member result }
     {
+        let obligations = self.ledger.obligations;
         let mut i = 0;
         loop {
             if self.ledger.count <= i {
                 break 0;
             }
-            if is_late(self.day.today, member, self.ledger.obligations[i]) {
+            if is_late(self.day.today, member, obligations[i]) {
                 break i as u64 + 1;
             }
             i += 1;

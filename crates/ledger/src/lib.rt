@@ -384,8 +384,9 @@ impl Ledger {
         requires { self.now.count ≤ most_obligations }
         ensures { result ≡ fetched self.now number }
     {
+        let rows = self.obligations;
         if number < self.count as u64 {
-            return Fetched::Found(self.obligations[number as usize]);
+            return Fetched::Found(rows[number as usize]);
         }
         Fetched::Absent
     }
@@ -395,9 +396,11 @@ impl Ledger {
         requires { answer_of change.now ≡ 0 → number < most_obligations }
         ensures { self.new ≡ changed number (effect_of change.now) self.old }
     {
+        let mut rows = self.obligations;
         if let Ok(done) = change {
-            self.obligations[number as usize] = done.obligation;
+            rows[number as usize] = done.obligation;
         }
+        self.obligations = rows;
     }
 
     // Sets all accounts to zero.

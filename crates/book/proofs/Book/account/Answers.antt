@@ -15,11 +15,11 @@ pub returns-in-Err-clause-value : goal.returns-in-Err-clause-value
 unfolding account
 returns-in-Err-clause-value c = ap (account_refused c.args.self) c.from.ensures ∙ refused_for _ _ (account_refused c.args.self) c.member_in.ensures c.in-Err.is
 
-pub bounds-self-member : goal.bounds-self-member
-bounds-self-member c = let p = ltb-false _ _ (passed 1 _ [] (zero_by c.member_in.ensures c.in_default.is) refl).0 in omega arith
+pub bounds-accounts-member : goal.bounds-accounts-member
+bounds-accounts-member c = let p = ltb-false _ _ (passed 1 _ [] (zero_by c.member_in.ensures c.in_default.is) refl).0 in omega arith
 
-pub offset_bounds-self-member : goal.offset_bounds-self-member
-offset_bounds-self-member c = let p = ltb-false _ _ (passed 1 _ [] (zero_by c.member_in.ensures c.in_default.is) refl).0 in record { fits = omega arith }
+pub offset_bounds-accounts-member : goal.offset_bounds-accounts-member
+offset_bounds-accounts-member c = let p = ltb-false _ _ (passed 1 _ [] (zero_by c.member_in.ensures c.in_default.is) refl).0 in record { fits = omega arith }
 
 pub returns-clause-value : goal.returns-clause-value
 unfolding account

@@ -1,26 +1,31 @@
 -- `again` meets its contract.
-use mathlib.Core.Path.{◌∙◌}
-use Rattle.basics.proofs.Reasons.{zero_by, refused_for, done_for}
+use Prim.Native.Nat.{ℕ}
+use mathlib.Core.Path.{sym, ap, ◌∙◌}
+use Rattle.basics.proofs.Refusals.{refused_with, done_by}
 use Rattle.refusals.proofs.Ending.{again_given}
 use Rattle.book.specs.Close.{close_refused}
 use Rattle.book.specs.Again.{again_done, again, again_words}
 use Rattle.book.proofs.Book.again.Goals as goal
 
-pub returns-in-Err-clause-value : goal.returns-in-Err-clause-value
-unfolding again
-returns-in-Err-clause-value c = c.refused.ensures ∙ refused_for _ (again_done c.args.self) (close_refused c.args.self) c.again.ensures c.in-Err.is
-
-pub returns-in-Err-clause-lines_after : goal.returns-in-Err-clause-lines_after
-unfolding again_words
-returns-in-Err-clause-lines_after c = refused_for _ _ (λ k. c.args.lines.now) c.again.ensures c.in-Err.is
-
 pub write-requires : goal.write-requires
-write-requires c = (c.requires.last, (again_given _ _ (zero_by c.again.ensures c.in_default.is)).0)
+write-requires c =
+    (c.requires.last, (again_given _ _ (sym (c.answer_of-answer.ensures ∙ c.again-allowed.ensures) ∙ c.if-answer-eq0.true)).0)
 
-pub returns-clause-value : goal.returns-clause-value
-unfolding again
-returns-clause-value c = done_for _ (again_done c.args.self) (close_refused c.args.self) c.again.ensures c.in_default.is
+pub returns-then-answer-eq0 : goal.returns-then-answer-eq0
+unfolding again again_words
+returns-then-answer-eq0 c =
+    let zero = c.if-answer-eq0.true in
+    let number = sym (c.answer_of-answer.ensures ∙ c.again-allowed.ensures) ∙ zero in record {
+      value = ap (λ (n : ℕ). record { answer = n; count = c.args.self.last.count; book = c.args.self }) zero ∙ done_by _ (again_done c.args.self) (close_refused c.args.self) number;
+      lines_after = c.write.ensures ∙ done_by _ _ (λ k. c.args.lines.now) number;
+      valid = c.requires;
+    }
 
-pub returns-clause-lines_after : goal.returns-clause-lines_after
-unfolding again_words
-returns-clause-lines_after c = c.write.ensures ∙ done_for _ _ (λ k. c.args.lines.now) c.again.ensures c.in_default.is
+pub returns-else-answer-eq0 : goal.returns-else-answer-eq0
+unfolding again again_words
+returns-else-answer-eq0 c =
+    let number = sym (c.answer_of-answer.ensures ∙ c.again-allowed.ensures) in record {
+      value = refused_with _ _ (again_done c.args.self) (close_refused c.args.self) number c.if-answer-eq0.false;
+      lines_after = refused_with _ _ _ (λ k. c.args.lines.now) number c.if-answer-eq0.false;
+      valid = c.requires;
+    }

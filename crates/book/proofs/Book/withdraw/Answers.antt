@@ -2,10 +2,9 @@
 use Prim.Native.Nat.{ℕ, ◌≤◌, ◌<◌}
 use Rattle.std.specs.Prelude.{Option, Some, None}
 use native.Mathlib.Omega.{arith}
-use mathlib.Core.Path.{◌≡◌, refl, sym, ap, ◌∙◌}
+use mathlib.Core.Path.{◌≡◌, refl, sym, ap, ap₂, ◌∙◌}
 use mathlib.Core.Bool.{false≢true}
 use Rattle.basics.specs.Refusals.{answer}
-use Rattle.basics.proofs.Reasons.{number_some, number_by, zero_by}
 use Rattle.basics.proofs.Refusals.{passed, refused_with, done_by}
 use Rattle.instructions.specs.declared.Legs.{Legs}
 use Rattle.instructions.specs.declared.Leg.{Leg}
@@ -18,6 +17,7 @@ use Rattle.book.specs.Instructing.{withdraw_refusals, done_refused, withdraw_don
 use Rattle.book.proofs.Answers.{answered}
 use Rattle.book.proofs.Kept.{withdraw_valid}
 use Rattle.book.proofs.Book.withdraw.Goals as goal
+use Rattle.book.proofs.Book.withdraw.Goals.{else-answer-eq0, then-answer-eq0}
 
 -- an absent leg is refused
 absent_some : (member : ℕ) → answer (withdraw_refusals None member) ≡ 0 → ⊥
@@ -40,21 +40,19 @@ unfolding withdraw_by
 done_as b n member None e = absurd (absent_some member e)
 done_as b n member (Some l) e = done_by (withdraw_refusals (Some l) member) (withdraw_done b n) (done_refused b) e
 
-pub may_withdraw-requires : goal.may_withdraw-requires
-may_withdraw-requires c = c.requires.legs.few
-
-pub returns-in-Err-clause-value : goal.returns-in-Err-clause-value
-unfolding withdraw
-returns-in-Err-clause-value c =
-    c.refused.ensures ∙ refused_as _ _ _ _ _ (number_by c.may_withdraw.ensures c.in-Err.is) (number_some _)
+pub may_withdraw-allowed-requires : goal.may_withdraw-allowed-requires
+may_withdraw-allowed-requires c = c.requires.legs.few
 
 pub set_state-requires : goal.set_state-requires
-set_state-requires c = there _ _ _ c.requires.legs.few (zero_by c.may_withdraw.ensures c.in_default.is)
+set_state-requires c =
+    there _ _ _ c.requires.legs.few (sym (c.answer_of-answer.ensures ∙ c.may_withdraw-allowed.ensures) ∙ c.if-answer-eq0.true)
 
 pub returns : goal.returns
 unfolding withdraw
 returns c =
     let a = c.args in
+    let e = sym (c.answer_of-answer.ensures ∙ c.may_withdraw-allowed.ensures) in
+    let made : ℕ → Legs → Done = λ (k : ℕ) (legs : Legs). record { answer = k; book = with_legs legs a.self } in
     answered (λ (r : Done). r.book)
-    (ap (λ (legs : Legs). record { answer = 0; book = with_legs legs a.self }) c.set_state.ensures ∙ done_as _ _ _ _ (zero_by c.may_withdraw.ensures c.in_default.is))
+    (elim c.if-answer-eq0.branch [ then-answer-eq0 w ↦ ap₂ made w.if-answer-eq0.true (w.legs-is ∙ w.set_state.ensures) ∙ done_as a.self a.leg a.member _ (e ∙ w.if-answer-eq0.true) | else-answer-eq0 w ↦ ap (made _) w.legs-is ∙ refused_as a.self a.leg a.member _ _ e w.if-answer-eq0.false ])
     (withdraw_valid _ c.requires a.leg a.member)
