@@ -23,6 +23,11 @@ pub due_whole : (a q : ℕ) → 0 < q → due_for a q q ≡ a
 unfolding due_for
 due_whole a q p = mul-div_cancel a p
 
+-- the cash of two deliveries, one after the other, is the cash of both at once
+pub cash_adds : (a q s t u : ℕ) → 0 < q → s ≤ t → t ≤ u → cash a q s t + cash a q t u ≡ cash a q s u
+unfolding cash
+cash_adds a q s t u p h k = let e = due_rises a q p h in let f = due_rises a q p k in omega arith
+
 -- the cash for the whole quantity is the amount
 pub cash_whole : (a q : ℕ) → 0 < q → cash a q 0 q ≡ a
 unfolding cash

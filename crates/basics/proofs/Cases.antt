@@ -5,9 +5,9 @@ use mathlib.Core.Path.{◌≡◌, refl, sym, ◌∙◌}
 use mathlib.Core.Bool.{Bool, true, false, ◌&&◌, ◌||◌}
 use mathlib.Core.Logic.{◌⊎◌, inl, inr}
 use mathlib.Core.List.{List, map}
-use lib.Dec.{ltb}
+use lib.Dec.{ltb, eqb}
 use lib.ListN.{length, length-map}
-use borrow.Author.Tests.{ltb-true, ltb-false}
+use borrow.Author.Tests.{ltb-true, ltb-false, lt-ltb, le-ltb, eq-eqb, ne_eqb}
 use Rattle.basics.specs.Choice.{pick}
 
 -- a test does not both fail and hold
@@ -49,6 +49,14 @@ lesser_case P a b t less more same = by (ltb a b) (ltb b a) refl refl
     by true v e f = less (ltb-true a b e)
     by false true e f = more (ltb-true b a f)
     by false false e f = same (omega (arith, ltb-false a b e, ltb-false b a f))
+
+-- the same comparison as code has it
+pub lesser_or_same : (a b : ℕ) (t : Bool) → pick (ltb a b) true (pick (ltb b a) false t) ≡ (ltb a b || (eqb a b && t))
+lesser_or_same a b t =
+    lesser_case (λ u. u ≡ (ltb a b || (eqb a b && t))) a b t
+    (λ l. rw (lt-ltb a b l))
+    (λ l. rw (le-ltb a b (omega arith), ne_eqb a b (λ e. omega arith)))
+    (λ e. rw (le-ltb a b (omega arith), eq-eqb a b e))
 
 -- The length of an array of structs. The checker states it of the array as it lies in memory.
 pub length_mapped : {X Y : Type 0} (f : X → Y) (l : List X) (n : ℕ) → length (map f l) ≡ n → length l ≡ n

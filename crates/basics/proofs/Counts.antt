@@ -1,6 +1,7 @@
 -- Laws on how many of the numbers below n pass a test, and on sums over a table by an index.
 use Prim.Native.Nat.{ℕ, zero, suc, ◌+◌, ◌*◌, ◌/◌, ◌%◌, ◌≤◌, ◌<◌}
 use native.Mathlib.Nat.{add-mul, mul-add, div-add-mod', zero-mul, one-mul}
+use native.Mathlib.Numerals.{add-one}
 use native.Mathlib.Omega.{arith}
 use mathlib.Core.Bool.{Bool, true, false}
 use mathlib.Core.List.{List}
@@ -28,6 +29,11 @@ count_within (suc n) p = by (p n) (count_within n p)
     by : (b : Bool) → count_below n p ≤ n → more b (count_below n p) ≤ suc n
     by true h = omega arith
     by false h = omega arith
+
+-- the count over one number more, by whether that number passes
+pub count_next : (n : ℕ) (p : ℕ → Bool) (t : Bool) → p n ≡ t → count_below (n + 1) p ≡ more t (count_below n p)
+unfolding count_below
+count_next n p t e = rw (add-one, e)
 
 -- two tests that agree below n count the same
 pub count_same : (n : ℕ) (p q : ℕ → Bool) → ((k : ℕ) → k < n → p k ≡ q k) → count_below n p ≡ count_below n q

@@ -9,7 +9,7 @@ use mathlib.Core.List.{List, [], ◌∷◌, ◌++◌}
 use lib.Dec.{eqb}
 use lib.ListN.{length, get_or, take, drop}
 use lib.Seq.{drop-cons, drop-drop, take-nil}
-use borrow.Author.Tests.{eqb-true}
+use borrow.Author.Tests.{eq-eqb, ne_eqb, eqb-true}
 use Rattle.basics.specs.Choice.{pick}
 use Rattle.basics.specs.Lists.{between, up_to}
 use Rattle.basics.proofs.Cases.{pick_case}
@@ -37,6 +37,13 @@ drop_more xs at d h = rw (add-one at) (drop-cons xs at d h)
 pub between_none : (xs : List ℕ) (at to : ℕ) → to ≤ at → between at to xs ≡ []
 between_none xs at to h = let e : to - at ≡ 0 = omega arith in rw e
 
+-- between two places there are the element at the first and then the others
+pub between_more : (xs : List ℕ) (at to : ℕ) → at < to → to ≤ length xs
+    → between at to xs ≡ get_or xs at 0 ∷ between (at + 1) to xs
+between_more xs at to h l =
+    let e : to - at ≡ suc (to - (at + 1)) = omega arith in
+    rw (e, drop_more xs at 0 (omega arith))
+
 -- without its first k elements, a part begins k places later
 pub between_behind : (from to k : ℕ) (xs : List ℕ) → from + k ≤ to → drop k (between from to xs) ≡ between (from + k) to xs
 between_behind from to k xs h =
@@ -45,6 +52,21 @@ between_behind from to k xs h =
     ∙ ap (take (to - (from + k))) (drop-drop k from xs)
 
 -- ---- the elements ahead of the first that equals a given number
+-- an empty list has nothing up to a number
+pub up_past : (x : ℕ) {xs : List ℕ} → xs ≡ [] → up_to x xs ≡ []
+unfolding up_to
+up_past x e = rw e
+
+-- where the list begins with the number, nothing is ahead of it
+pub up_ends : (x : ℕ) {y : ℕ} {xs ys : List ℕ} → xs ≡ y ∷ ys → y ≡ x → up_to x xs ≡ []
+unfolding up_to
+up_ends x {y} e s = rw (e, eq-eqb y x s)
+
+-- where the list begins with another number, this one is the first of the elements ahead
+pub up_goes_on : (x : ℕ) {y : ℕ} {xs ys : List ℕ} → xs ≡ y ∷ ys → (y ≡ x → ⊥) → up_to x xs ≡ y ∷ up_to x ys
+unfolding up_to
+up_goes_on x {y} e s = rw (e, ne_eqb y x s)
+
 -- the elements ahead are no more than the list has
 pub up_most : (x : ℕ) (xs : List ℕ) → length (up_to x xs) ≤ length xs
 unfolding up_to

@@ -4,10 +4,12 @@ use native.Mathlib.Nat.{zero-add}
 use native.Mathlib.Numerals.{add-one}
 use native.Mathlib.Omega.{arith}
 use mathlib.Core.Path.{◌≡◌, refl, sym, ap, ◌∙◌}
+use mathlib.Core.Logic.{⊎_elim}
 use mathlib.Core.List.{List, [], ◌∷◌, ◌++◌}
-use lib.ListN.{length, get_or}
-use lib.Seq.{ext_get_or}
+use lib.ListN.{length, get_or, set}
+use lib.Seq.{get_or-set_same, get_or-set_other, ext_get_or}
 use Rattle.basics.specs.Lists.{table_from, table}
+use Rattle.basics.proofs.Cases.{last_or_below}
 
 table_from_length : {A : Type 0} (k n : ℕ) (f : ℕ → A) → length (table_from k n f) ≡ n
 unfolding table_from
@@ -50,3 +52,11 @@ table_last n f = rw (add-one n) (table_from_last 0 n f ∙ ap (λ (i : ℕ). tab
 pub is_table : {A : Type 0} (n : ℕ) (f : ℕ → A) (xs : List A) (d : A) → length xs ≡ n → ((i : ℕ) → i < n → get_or xs i d ≡ f i) → xs ≡ table n f
 is_table n f xs d h e =
     ext_get_or d xs (table n f) (h ∙ sym (table_length n f)) (λ i l. e i (omega arith) ∙ sym (table_at n f i d (omega arith)))
+
+-- A list holds f of each index below i. With f i stored at i it holds f of each index up to i.
+pub filled_more : {A : Type 0} (xs : List A) (d : A) (i : ℕ) (v : A) (f : ℕ → A) → i < length xs → ((k : ℕ) → k < i → get_or xs k d ≡ f k) → v ≡ f i →
+    (k : ℕ) → k < i + 1 → get_or (set xs i v) k d ≡ f k
+filled_more xs d i v f l h e k b =
+    ⊎_elim (λ (q : k ≡ i). rw q (get_or-set_same xs i v d l ∙ e))
+    (λ (q : k < i). get_or-set_other xs i k v d (λ z. omega arith) ∙ h k q)
+    (last_or_below k i (omega arith))

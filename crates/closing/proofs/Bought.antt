@@ -5,7 +5,7 @@ use native.Mathlib.Numerals.{add-one}
 use mathlib.Core.Path.{◌≡◌, refl, sym, ap, ◌∙◌}
 use mathlib.Core.List.{List, [], ◌∷◌, ◌++◌}
 use lib.ListN.{length, get_or, take}
-use lib.Seq.{take-suc, length-take-le}
+use lib.Seq.{take-suc, take_all, length-take-le}
 use Rattle.basics.specs.Lists.{total}
 use Rattle.basics.proofs.Everywhere.{every_at}
 use Rattle.amounts.specs.Amounts.{most_offer_price}
@@ -83,3 +83,6 @@ module _ (n : ℕ) (o : Obligation) (gs : List Given) (h : Buys o gs) where
         bought_length n (take k gs) o,
         length-take-le k gs (omega arith),
       )
+
+  pub so_far_all : bought_all n (take (length gs) gs) o ≡ bought_all n gs o
+  so_far_all = ap (λ (l : List Given). bought_all n l o) (take_all (length gs) gs (omega arith))

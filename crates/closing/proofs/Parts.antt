@@ -7,7 +7,7 @@ use mathlib.Core.Bool.{Bool, true, false}
 use mathlib.Core.List.{List, ◌++◌}
 use lib.Dec.{eqb}
 use lib.ListN.{length, take, length-append}
-use borrow.Author.Tests.{eqb-true, eq-eqb}
+use borrow.Author.Tests.{eqb-true, eq-eqb, ne_eqb}
 use Rattle.basics.proofs.Cases.{pick_case}
 use Rattle.amounts.specs.Amounts.{most_close_price}
 use Rattle.offers.specs.declared.Offer.{Offer}
@@ -175,6 +175,10 @@ extras_most true false price n o r h = omega arith
 extras_most false true price n o r h =
     pick_case (λ (m : Made). 0 + length m.lines ≤ 1) (eqb r.parts.outstanding 0) _ _ (λ g. omega arith) (λ g. omega arith)
 extras_most false false price n o r h = omega arith
+
+pub compensated_one : (price n : ℕ) (o : Obligation) → (o.parts.outstanding ≡ 0 → ⊥) → length (compensated_at true price n o).lines ≡ 1
+unfolding compensated_at compensated
+compensated_one price n o f = rw (ne_eqb o.parts.outstanding 0 f)
 
 pub bought_in_most : (comes : Bool) (offers : List Offer) (n : ℕ) (o : Obligation) →
     length (buy_in_at comes offers n o).lines ≤ length (given n o.parts.outstanding offers)

@@ -4,7 +4,7 @@ use Prim.Native.Nat.{ℕ, zero, suc, ◌+◌, ◌*◌, ◌≤◌, ◌<◌}
 use native.Mathlib.Omega.{arith}
 use native.Mathlib.Numerals.{add-one}
 use native.Mathlib.Nat.{zero-add}
-use mathlib.Core.Path.{◌≡◌, refl, sym, ap, subst, ◌∙◌}
+use mathlib.Core.Path.{◌≡◌, refl, sym, ap, ap₂, subst, ◌∙◌}
 use mathlib.Core.Bool.{true, false}
 use mathlib.Core.List.{List, append-nil}
 use lib.IntN.{ℤ}
@@ -92,6 +92,65 @@ module _ (d : DayEnd) (os : List Obligation) where
       apart a b = omega arith
 
 -- ---- a Close in its course
+-- the rows after the first n obligations were closed, and their lines
+pub record RowsDone (d : DayEnd) (offers : List Offer) (os : List Obligation) (n : ℕ) (next : List Obligation) (count : ℕ) (ws ws' : List ℕ) : Type 0 where
+  pub rows : next ≡ rows_up_to d offers os n
+  pub counted : count ≡ length (lines_up_to d offers os n)
+  pub words : ws' ≡ sets ws 0 (flat (lines_up_to d offers os n))
+
+module _ (d : DayEnd) (offers : List Offer) (os : List Obligation) (n : ℕ) (next : List Obligation) (count : ℕ) (ws ws' : List ℕ) (s : RowsDone d offers os n next count ws ws') where
+  abbrev made : List Line
+  made = lines_up_to d offers os n
+
+  pub done_length : length ws' ≡ length ws
+  done_length = ap (λ (l : List ℕ). length l) s.words ∙ length-sets ws 0 (flat made)
+
+  pub done_one : (r : Closing) (ws'' : List ℕ) → Wrote (record { number = n; obligation = get_or os n no_obligation; count = count }) ws' r ws'' (closed_at d offers os n) →
+      RowsDone d offers os (n + 1) (set next n r.obligation) r.count ws ws''
+  unfolding rows_up_to lines_up_to
+  done_one r ws'' w =
+      let ms : List Line = (closed_at d offers os n).lines in
+      rw (add-one n) (record {
+        rows = ap₂ (λ (l : List Obligation) (o : Obligation). set l n o) s.rows w.made;
+        counted = omega (arith, w.counted, s.counted, length-append made ms);
+        words =
+            w.words
+            ∙ ap (λ (l : List ℕ). sets l (words_in_line * count) (flat ms)) s.words
+            ∙ ap (λ (k : ℕ). sets (sets ws 0 (flat made)) (words_in_line * k) (flat ms)) s.counted
+            ∙ rw zero-add at (flat_stores ws 0 made ms);
+      })
+
+  -- the lines are at the front, and the words after them are as they were
+  pub done_all : words_in_line * length made ≤ length ws → ClosedAs (rows_up_to d offers os n) made next count ws ws'
+  unfolding written
+  done_all h = record {
+    result = s.rows;
+    counted = s.counted;
+    words = s.words ∙ sets_ahead ws (flat made) (omega (arith, flat_length made));
+  }
+
+-- the lines of the next obligation have room
+pub rows_room : (d : DayEnd) (l : Ledger) (n count : ℕ) (next : List Obligation) (ws ws' : List ℕ) → Closable d l ws → n < l.count →
+    RowsDone d (listed_offers l.offers) l.obligations n next count ws ws' → Room count ws' (closed_at d (listed_offers l.offers) l.obligations n)
+unfolding lines_up_to
+rows_room d l n count next ws ws' c h s =
+    omega (
+      arith,
+      lines_most d l.obligations l.offers c.end.setup.terms c.valid.offers.few (suc n) (omega (arith, c.valid.few)),
+      length-append (lines_up_to d (listed_offers l.offers) l.obligations n) (closed_at d (listed_offers l.offers) l.obligations n).lines,
+      s.counted,
+      done_length d (listed_offers l.offers) l.obligations n next count ws ws' s,
+      c.long,
+    )
+
+-- the requirement of the next obligation's Close holds
+pub rows_closes : (d : DayEnd) (l : Ledger) (n : ℕ) (ws : List ℕ) → Closable d l ws → n < l.count → Closes d l.offers (obligation_at l n)
+rows_closes d l n ws c h = record {
+  sound = c.valid.sound n h;
+  end = c.end;
+  priced = record { few = c.valid.offers.few; prices = every_map (λ (x : Offer) (s : SoundOffer l.count x). s.price_most) c.valid.offers.sound };
+}
+
 -- the ledger in which the first n obligations are closed, and their penalties moved
 abbrev ledger_up_to : DayEnd → Ledger → ℕ → Ledger
 ledger_up_to d l n = record {
@@ -121,8 +180,9 @@ module _ (d : DayEnd) (l : Ledger) (n : ℕ) (next : Ledger) (count : ℕ) (ws w
   abbrev ls : List Line
   ls = lines_up_to d offers l.obligations n
 
-  done_length : length ws' ≡ length ws
-  done_length = ap (λ (l : List ℕ). length l) s.words ∙ length-sets ws 0 (flat ls)
+  -- its rows and their lines
+  rows_done : RowsDone d offers l.obligations n next.obligations count ws ws'
+  rows_done = record { rows = ap (λ (k : Ledger). k.obligations) s.ledger; counted = s.counted; words = s.words }
 
   -- the next obligation, which is still as it was
   abbrev p : Obligation
@@ -148,20 +208,17 @@ module _ (d : DayEnd) (l : Ledger) (n : ℕ) (next : Ledger) (count : ℕ) (ws w
       let e : is_due d.today o ≡ true = rw p_same at f in
       let a : accounts ≡ transferred (sides_of o).debtor (sides_of o).creditor (penalty_on d o) next.accounts = rw p_same at b in
       let v : Wrote (record { number = n; obligation = o; count = count }) ws' r ws'' (closed_at d offers l.obligations n) = rw (due_stages d offers n o e) (rw (offers_same, p_same) at w) in
-      let ms : List Line = (closed_at d offers l.obligations n).lines in
+      let one : RowsDone d offers l.obligations (suc n) (set next.obligations n r.obligation) r.count ws ws'' =
+      rw add-one at (done_one d offers l.obligations n next.obligations count ws ws' rows_done r ws'' v) in
       rw (add-one n) (record {
         ledger = λ i. record {
-          obligations = set (s.ledger i).obligations n (v.made i);
+          obligations = one.rows i;
           count = (s.ledger i).count;
           offers = (s.ledger i).offers;
           accounts = (a ∙ ap (λ (k : Ledger). transferred (sides_of o).debtor (sides_of o).creditor (penalty_on d o) k.accounts) s.ledger ∙ sym (fined_due d o (ledger_up_to d l n).accounts e)) i;
         };
-        counted = omega (arith, v.counted, s.counted, length-append ls ms);
-        words =
-            v.words
-            ∙ ap (λ (l : List ℕ). sets l (words_in_line * count) (flat ms)) s.words
-            ∙ ap (λ (k : ℕ). sets (sets ws 0 (flat ls)) (words_in_line * k) (flat ms)) s.counted
-            ∙ rw zero-add at (flat_stores ws 0 ls ms);
+        counted = one.counted;
+        words = one.words;
       })
 
   -- it is not due, so nothing is to be done
@@ -192,25 +249,12 @@ module _ (d : DayEnd) (l : Ledger) (n : ℕ) (next : Ledger) (count : ℕ) (ws w
         (rw (ap (λ (k : Ledger). k.accounts) s.ledger) (bounded_up_to d l c.end c.valid n (omega arith) c.accounts_near))
 
     pub done_closes : Closes d next.offers p
-    done_closes = record {
-      sound = done_sound;
-      end = c.end;
-      priced = rw (ap (λ (k : Ledger). k.offers) s.ledger) (record { few = c.valid.offers.few; prices = every_map (λ (x : Offer) (s : SoundOffer l.count x). s.price_most) c.valid.offers.sound });
-    }
+    done_closes = rw (p_same, ap (λ (k : Ledger). k.offers) s.ledger) (rows_closes d l n ws c h)
 
     pub done_room : is_due d.today p ≡ true → Room count ws' (stages d (age_by d.setup d.today p) (listed_offers next.offers) n p)
-    unfolding lines_up_to
     done_room f =
         let e : is_due d.today o ≡ true = rw p_same at f in
-        rw (offers_same, p_same, ← due_stages d offers n o e)
-        (omega (
-          arith,
-          lines_most d l.obligations l.offers c.end.setup.terms c.valid.offers.few (suc n) (omega (arith, c.valid.few)),
-          length-append ls (closed_at d offers l.obligations n).lines,
-          s.counted,
-          done_length,
-          c.long,
-        ))
+        rw (offers_same, p_same, ← due_stages d offers n o e) (rows_room d l n count next.obligations ws ws' c h rows_done)
 
 -- the ledger with other offers
 abbrev with_offers : Offers → Ledger → Ledger
@@ -218,14 +262,12 @@ with_offers offers l = record { obligations = l.obligations; count = l.count; of
 
 -- After the last obligation the offers are removed. The lines are at the front, and the words after them are as they
 -- were.
-pub done_all : (d : DayEnd) (l next : Ledger) (n count : ℕ) (ws ws' : List ℕ) (none : Offers) → Closable d l ws → n ≡ l.count → Done d l n next count ws ws' → none ≡ no_offers →
+pub done_closed : (d : DayEnd) (l next : Ledger) (n count : ℕ) (ws ws' : List ℕ) (none : Offers) → Closable d l ws → n ≡ l.count → Done d l n next count ws ws' → none ≡ no_offers →
     ClosedAs (closed_ledger d l) (close_lines d l) (with_offers none next) count ws ws'
-unfolding written
-done_all d l next n count ws ws' none c all done e =
+done_closed d l next n count ws ws' none c all done e =
     let s : Done d l l.count next count ws ws' = subst (λ (k : ℕ). Done d l k next count ws ws') all done in
     let most = lines_most d l.obligations l.offers c.end.setup.terms c.valid.offers.few l.count c.valid.few in
-    record {
-      result = λ i. with_offers (e i) (s.ledger i);
-      counted = s.counted;
-      words = s.words ∙ sets_ahead ws (flat (close_lines d l)) (omega (arith, most, flat_length (close_lines d l), c.long));
-    }
+    let closed =
+    done_all d (listed_offers l.offers) l.obligations l.count next.obligations count ws ws'
+    (rows_done d l l.count next count ws ws' s) (omega (arith, most, c.long)) in
+    record { result = λ i. with_offers (e i) (s.ledger i); counted = closed.counted; words = closed.words }

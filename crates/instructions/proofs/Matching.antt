@@ -1,21 +1,43 @@
 -- The lowest leg that fits: it fits, and none below it does.
-use Prim.Native.Nat.{ℕ, zero, suc, ◌+◌, ◌<◌}
+use Prim.Native.Nat.{ℕ, zero, suc, ◌+◌, ◌≤◌, ◌<◌}
 use Rattle.std.specs.Prelude.{cond, Some, None}
+use Rattle.std.specs.List.{position_from}
 use native.Mathlib.Nat.{zero-add}
 use native.Mathlib.Omega.{arith}
+use native.Mathlib.Numerals.{add-one}
 use mathlib.Core.Path.{◌≡◌, refl, sym, ap, ◌∙◌}
 use mathlib.Core.Bool.{Bool, true, false, not}
 use mathlib.Core.List.{List, [], ◌∷◌}
 use lib.Dec.{eqb}
-use lib.ListN.{length, get_or, length-take}
-use lib.Seq.{get_or-take}
+use lib.ListN.{length, get_or, drop, length-take, drop_of_length-le}
+use lib.Seq.{drop-cons, get_or-take}
 use borrow.Author.Tests.{eqb-true, not-true}
+use Rattle.basics.specs.Choice.{pick}
 use Rattle.basics.proofs.Cases.{and_true}
 use Rattle.amounts.specs.Amounts.{amounts_match}
 use Rattle.instructions.specs.declared.Leg.{Leg}
 use Rattle.instructions.specs.declared.Legs.{Legs}
-use Rattle.instructions.specs.Legs.{is_waiting, no_leg, entered, leg_at}
+use Rattle.instructions.specs.Legs.{most_legs, is_waiting, no_leg, entered, leg_at}
 use Rattle.instructions.specs.Match.{delivering, receiving, members_cross, same_business, fits, first_fit, lowest_fit}
+
+-- ---- the search, leg by leg
+module _ (s : Legs) (new : Leg) (size : length s.rows ≡ most_legs) (few : s.count ≤ most_legs) where
+  -- the legs from leg i on
+  pub search_more : (i : ℕ) → i < s.count →
+      first_fit new i (drop i (entered s)) ≡ pick (fits (leg_at s i) new) (Some i) (first_fit new (i + 1) (drop (i + 1) (entered s)))
+  unfolding first_fit
+  search_more i h =
+      let l : i < length (entered s) = omega (arith, length-take s.count s.rows) in
+      rw (drop-cons (entered s) i no_leg l, get_or-take s.count s.rows i no_leg h, add-one i) (by (fits (leg_at s i) new))
+    where
+      by : (t : Bool) → cond t (Some i) (position_from (λ l. fits l new) (suc i) (drop (suc i) (entered s)))
+          ≡ pick t (Some i) (position_from (λ l. fits l new) (suc i) (drop (suc i) (entered s)))
+      by true = refl
+      by false = refl
+
+  pub search_end : (i : ℕ) → s.count ≤ i → first_fit new i (drop i (entered s)) ≡ None
+  unfolding first_fit
+  search_end i h = rw (drop_of_length-le (entered s) {i = i} (omega (arith, length-take s.count s.rows)))
 
 -- ---- what was found
 never_both : {A : Type 0} {k : ℕ} → Some k ≡ None → A

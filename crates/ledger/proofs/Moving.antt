@@ -4,7 +4,7 @@ use native.Mathlib.Omega.{arith}
 use mathlib.Core.Path.{◌≡◌, refl, sym, ap, ◌∙◌}
 use mathlib.Core.Bool.{Bool, true, false}
 use lib.ListN.{get_or}
-use borrow.Author.Tests.{eqb-true}
+use borrow.Author.Tests.{eqb-true, eq-eqb}
 use Rattle.basics.specs.Choice.{pick}
 use Rattle.basics.specs.Lists.{total}
 use Rattle.basics.proofs.Cases.{pick_case}
@@ -20,6 +20,10 @@ part_at Delivered = refl
 part_at BoughtIn = refl
 part_at Compensated = refl
 part_at Cancelled = refl
+
+-- a part is the same as itself
+pub same_part_self : (k : Part) → same_part k k ≡ true
+same_part_self k = eq-eqb (part_number k) (part_number k) refl
 
 -- parts that are the same are equal
 pub same_part_lem : (j k : Part) → same_part j k ≡ true → j ≡ k

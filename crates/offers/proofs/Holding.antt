@@ -31,6 +31,10 @@ module _ (s : Offers) (o : Offer) (room : s.count < most_offers) (size : length 
   pub listed_with : listed_offers (with_offer s o) ≡ inserted o (listed_offers s)
   listed_with = take_at (inserted o (listed_offers s)) (drop (s.count + 1) s.rows) (s.count + 1) inserted_length
 
+  -- the count grows by one
+  pub count_with : (with_offer s o).count ≡ s.count + 1
+  count_with = refl
+
   -- there are still 64 rows
   pub size_with : length (with_offer s o).rows ≡ most_offers
   size_with =

@@ -6,10 +6,11 @@ use mathlib.Core.Path.{◌≡◌, refl, sym, ap, ◌∙◌}
 use mathlib.Core.Bool.{Bool, true, false}
 use mathlib.Core.List.{List, [], ◌∷◌, ◌++◌, append_assoc, append-nil}
 use lib.Dec.{eqb}
-use lib.ListN.{length, get_or, set, drop, length-append, drop_of_length-le}
+use lib.ListN.{length, get_or, set, drop, replicate, length-append, drop_of_length-le}
 use borrow.Author.Tests.{eq-eqb, ne_eqb}
 use Rattle.basics.specs.Choice.{pick}
 use Rattle.basics.specs.Lists.{padded}
+use Rattle.basics.proofs.Cases.{pick_case}
 use Rattle.basics.proofs.Fronts.{drop_more}
 use Rattle.basics.proofs.Places.{padded_more}
 use Rattle.offers.specs.declared.Offer.{Offer}
@@ -21,6 +22,14 @@ use Rattle.offers.specs.BuyIn.{offers_for, with_given, given_by, given, nothing_
 -- the quantity that one offer gives to obligation i, of which some quantity is left
 abbrev pub quantity_from : Offer → ℕ → ℕ → ℕ
 quantity_from x i left = pick (eqb x.obligation i) (min x.quantity left) 0
+
+-- an offer gives no more than is left
+pub gives_within : (x : Offer) (i left q : ℕ) → q ≡ quantity_from x i left → q ≤ left
+gives_within x i left q e =
+    rw e
+    (pick_case (λ (n : ℕ). n ≤ left) (eqb x.obligation i) (min x.quantity left) 0
+    (λ z. omega arith)
+    (λ z. omega arith))
 
 -- After k offers, what they gave fills the first places. With what the others will give, it is what all offers give.
 pub record Passed (i left : ℕ) (xs : List Offer) (bought : List Given) (count rest k : ℕ) : Type 0 where
@@ -55,6 +64,10 @@ unfolding given given_by offers_for
 given_none i left = refl
 
 module _ (i left : ℕ) (xs : List Offer) where
+  -- before the first offer
+  pub passed_none : Passed i left xs (replicate most_offers nothing_given) 0 left 0
+  passed_none = record { so_far = []; few = omega arith; places = refl; filled = refl; made = refl }
+
   -- the same after a branch, where each value is known by an equation
   pub passed_same : {bought bought' : List Given} {count count' rest rest' k : ℕ}
       → bought' ≡ bought → count' ≡ count → rest' ≡ rest

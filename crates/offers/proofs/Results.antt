@@ -5,7 +5,7 @@ use mathlib.Core.Path.{◌≡◌}
 use mathlib.Core.List.{List}
 use lib.ListN.{length, take, length-take}
 use Rattle.basics.specs.Lists.{table, sum}
-use Rattle.basics.proofs.Places.{padded_front}
+use Rattle.basics.proofs.Places.{padded_front, padded_length}
 use Rattle.offers.specs.declared.Given.{Given}
 use Rattle.offers.specs.declared.Offers.{Offers}
 use Rattle.offers.specs.Held.{most_offers, listed_offers}
@@ -24,3 +24,7 @@ all_lines_most n left s = omega (arith, given_all_most n left (listed_offers s),
 -- the first count places hold what was given
 pub bought_given : (gs : List Given) → take (bought_with gs).count (bought_with gs).given ≡ gs
 bought_given gs = padded_front most_offers nothing_given gs
+
+-- there are 64 places
+pub bought_size : (gs : List Given) → length gs ≤ most_offers → length (bought_with gs).given ≡ most_offers
+bought_size gs h = padded_length most_offers nothing_given gs h

@@ -1,7 +1,7 @@
 -- `close` meets its contract.
 use native.Mathlib.Omega.{arith}
 use mathlib.Core.Path.{sym, ◌∙◌}
-use Rattle.closing.proofs.Together.{done_none, done_due, done_idle, done_sound, done_accounts, done_transferable, done_closes, done_room, done_all}
+use Rattle.closing.proofs.Together.{done_none, done_due, done_idle, done_sound, done_accounts, done_transferable, done_closes, done_room, done_closed}
 use Rattle.closing.proofs.close.Goals as goal
 use Rattle.closing.proofs.close.Goals.{then-is_due, else-is_due}
 
@@ -38,5 +38,5 @@ loop-i-preserved c =
 
 pub returns : goal.returns
 returns c =
-    done_all c.args.day.now c.args.ledger.now c.loop-i.ledger c.loop-i.i _ _ _ _ c.requires (omega (arith, c.loop-i.auto, c.loop-i-test.false)) c.loop-i.invariant
+    done_closed c.args.day.now c.args.ledger.now c.loop-i.ledger c.loop-i.i _ _ _ _ c.requires (omega (arith, c.loop-i.auto, c.loop-i-test.false)) c.loop-i.invariant
     c.none-ledger.ensures

@@ -25,7 +25,7 @@ from_fn-requires c =
       asked_below (λ x q k. search rules)
           (λ x l.
           let small : floor_of p.result.parts x ≤ 2 ^ 48 =
-          floor_small c.args.collected c.map-claims.result p.result x c.map-claims.ensures.items.long (asked (goal.at.from_fn-requires c).After-map-claims) p.ensures l in
+          floor_small c.args.collected c.map-claims.result p.result c.map-claims.ensures.items.long (asked (goal.at.from_fn-requires c).After-map-claims) p.ensures x in
           search rules),
     )
 
@@ -36,6 +36,6 @@ returns c =
     let gs = c.map-claims.result in
     let p = c.portions_of-portions in
     made_is (λ m. share_of (get_or gs m 0) p.result m) (share n gs) (λ x y q k. search rules)
-    (λ m l. ap (λ (q : Portions). share_of (get_or gs m 0) q m) p.ensures ∙ share_made n gs c.map-claims.ensures.items.long m l)
+    (λ m l. ap (λ (q : Portions). share_of (get_or gs m 0) q m) p.ensures ∙ share_made n gs m l)
     c.from_fn.ensures.items
     ∙ ap (shares n) (claimed (goal.at.returns c).After-map-claims)
