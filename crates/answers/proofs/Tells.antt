@@ -1,7 +1,9 @@
--- Which answers can be written.
-use Rattle.std.proofs.Common.{ℕ, ◌*◌, ◌≤◌, List, length}
+-- Which answers can be written, and what the text of an answer of numbers is.
+use Rattle.std.proofs.Common.{◌≡◌, ℕ, ◌-◌, ◌*◌, ◌≤◌, List, length, replicate, ap}
 use Rattle.std.specs.Prelude.{ℤ}
-use Rattle.answers.specs.Text.{most_lent, Tellable}
+use Rattle.std.proofs.Math.Seq.{take-append_seam}
+use Rattle.writing.specs.Answers.{answer_of}
+use Rattle.answers.specs.Text.{most_lent, Tellable, answer_text}
 use Rattle.answers.specs.Told.{most_shown, nothing, no_call, numbers_told, balance_told, closed_told, words_told}
 
 -- the answer to a comment can be written
@@ -35,3 +37,9 @@ pub words_tells : (shown : List ℕ) (lent : ℕ) (words : List ℕ) → length 
     → Tellable (words_told shown lent) words
 unfolding words_told
 words_tells shown lent words h m w = (h, record { few = m; within = w })
+
+-- the text of an answer number with results has exactly these numbers
+pub numbers_shown : (shown words : List ℕ) (line : ℕ) → length shown ≤ most_shown
+    → answer_text (numbers_told shown) line words ≡ answer_of shown
+unfolding answer_text numbers_told
+numbers_shown shown words line h = ap answer_of (take-append_seam shown (replicate (most_shown - length shown) 0))

@@ -2,6 +2,7 @@
 #![tactic(auto)]
 
 ghost use Rattle.std.specs.Prelude.{◌+◌, ◌*◌, ◌<◌, ◌≤◌, ◌≡◌, ◌++◌, length, take, drop};
+ghost use Rattle.writing.specs.Answers.{Wrote};
 ghost use Rattle.answers.specs.Told.{most_shown, numbers_of, listed, nothing, no_call, numbers_told, balance_told, closed_told, words_told};
 ghost use Rattle.answers.specs.Text.{most_answer, Tellable, WithinLent, balance_text, six_text, lines_text, kept_of};
 ghost use Rattle.answers.specs.Text.{kept_text, closed_text, words_text, answer_text};
@@ -139,6 +140,18 @@ impl Answer {
             Answer::Closed(reported) => tell_closed(*reported, words, out),
             Answer::Words(numbers, lent) => tell_words(numbers.listed(), &words[..*lent], out),
         }
+    }
+
+    // Writes the answer to a line at a place of any bytes, and answers the next place. It stands beside `tell` for bytes
+    // that are no output: the answer is written into an output of its own, and copied from there.
+    #[tactic(auto, using(crate::proofs::Lengths::answer_most))]
+    pub fn tell_at(&self, line: u64, words: &[u64], out: &mut [u8], at: usize) -> usize
+        requires { (Tellable self.now words.now) × (at + most_answer ≤ length out.old) }
+        ensures { Wrote (answer_text self.now line words.now) out.old at out.new result }
+    {
+        let mut told: Output<MOST_ANSWER> = Output::new();
+        self.tell(line, words, &mut told);
+        writing::write_bytes(out, at, told.written())
     }
 }
 

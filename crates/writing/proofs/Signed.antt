@@ -5,12 +5,13 @@ use native.Mathlib.Omega.{arith}
 use mathlib.Core.Bool.{true, false}
 use mathlib.Core.List.{◌∷◌}
 use mathlib.Core.Path.{◌≡◌, refl, sym, ap, ◌∙◌}
+use lib.Dec.{T}
 use lib.IntN.{ℤ, pos, negsuc, ◌-ℤ◌, nat_abs}
 use lib.ListN.{length}
-use lib.Signed.{mag, lt_z}
+use lib.Signed.{mag, lt_z, non_neg}
 use mir.Facts.{to_z-of_z}
 use mir.Syntax.{w64}
-use mir.Val.{SFits, to_z, of_z}
+use mir.Val.{Fits, SFits, to_z, of_z}
 use borrow.Author.Tests.{ltb-true, le-ltb}
 use Rattle.basics.proofs.Cases.{never}
 use Rattle.writing.specs.Digits.{digits_of, signed_of}
@@ -29,6 +30,10 @@ text_above : (z : ℤ) → lt_z z (pos 0) ≡ false → signed_of z ≡ digits_o
 unfolding signed_of
 text_above (pos n) e = refl
 text_above (negsuc n) e = absurd (never (sym e))
+
+above : (z : ℤ) → lt_z z (pos 0) ≡ false → T (non_neg z) × (nat_abs z ≡ mag z)
+above (pos n) e = (tt, refl)
+above (negsuc n) e = absurd (never (sym e))
 
 -- a number as it is read from its bits
 abbrev read : ℤ → ℤ
@@ -55,8 +60,14 @@ module _ (z : ℤ) (fits : SFits w64 z) where
     back : read (less z) ≡ pos (mag z)
     back = to_z-of_z less_fits ∙ less_is
 
+    pub less_above : T (non_neg (read (less z))) × Fits w64 (nat_abs (read (less z)))
+    less_above = rw back (tt, record { fits = omega (arith, fits.sfits) })
+
     size_is : size z ≡ mag z + 1
     size_is = rw back
+
+    pub size_fits : Fits w64 (size z)
+    size_fits = rw size_is (record { fits = omega (arith, fits.sfits) })
 
     -- its digits leave room for the sign
     pub size_most : length (digits_of (size z)) ≤ 19
@@ -66,6 +77,11 @@ module _ (z : ℤ) (fits : SFits w64 z) where
     text_negative = text_below z (rw read_is at e) ∙ ap (λ (m : ℕ). 45 ∷ digits_of m) (sym size_is)
 
   module _ (e : lt_z (read z) (pos 0) ≡ false) where
+    pub same_fits : T (non_neg (read z)) × Fits w64 (nat_abs (read z))
+    same_fits =
+        let a = above z (rw read_is at e) in
+        rw read_is (a.0, record { fits = omega (arith, a.1, fits.sfits) })
+
     pub text_same : signed_of z ≡ digits_of (nat_abs (read z))
     text_same = text_above z (rw read_is at e) ∙ ap (λ (m : ℤ). digits_of (nat_abs m)) (sym read_is)
 

@@ -1,7 +1,14 @@
 -- The text of answers: numbers on a line, labels, and line feeds (docs/JOURNAL.md, Lines out).
-use Rattle.std.specs.Prelude.{ℕ, List, [], ◌∷◌, ◌++◌, map}
+use Rattle.std.specs.Prelude.{ℕ, ◌+◌, ◌≡◌, List, [], ◌∷◌, ◌++◌, map, length}
+use Rattle.std.proofs.lemmas.List.Edits.{sets}
 use Rattle.writing.specs.Digits.{digits_of}
 use Rattle.writing.specs.Words.{joined}
+
+-- Bytes were written at a place of the output. They are there, every other byte is as it was, and the next place is the
+-- one after them.
+pub record Wrote (bytes out : List ℕ) (at : ℕ) (after : List ℕ) (next : ℕ) : Type 0 where
+  pub stands : after ≡ sets out at bytes
+  pub place : next ≡ at + length bytes
 
 -- a line feed
 abbrev pub line_feed : ℕ

@@ -1,5 +1,5 @@
-// Writes numbers, labels and line feeds as text at the end of the output. The bytes between words and between lines
-// stand here, and so does the search for them.
+// Writes numbers, labels and line feeds as text: at the end of an `Output`, or at a place of any bytes. The bytes between
+// words and between lines stand here, and so does the search for them.
 #![tactic(auto)]
 
 ghost use Rattle.std.specs.Prelude.{◌≡◌, [], ◌∷◌, ◌++◌, List, ℕ, map, ◌+◌, ◌*◌, ◌/◌, ◌%◌, ◌≤◌, ◌<◌, ◌==◌, leb, length, take, drop, position};
@@ -8,7 +8,13 @@ ghost use Rattle.writing.specs.Digits.{digit, digits_of, signed_of};
 ghost use Rattle.writing.specs.Words.{space, spaced};
 ghost use Rattle.writing.specs.Answers.{line_feed, text_of, answer_of, labelled, no_call_of, end_of};
 
+pub use places::{
+    write_answer, write_bytes, write_end, write_further, write_labelled, write_no_call,
+    write_number, write_numbers, write_signed, write_spaced,
+};
 use std::marker::Model;
+
+mod places;
 
 // The byte between two words.
 pub const SPACE: u8 = b' ';
@@ -106,6 +112,13 @@ impl<const N: usize> Output<N> {
         ensures { result ≡ leb (length self.now + count) N }
     {
         count <= N - self.end
+    }
+
+    // Keeps what was written so far. By its clause callers know that it is within the room, which no other clause says.
+    pub fn keep(&self)
+        ensures { length self.now ≤ N }
+    {
+        let _ = &self.end;
     }
 
     // Forgets what was written so far.
