@@ -57,9 +57,6 @@ impl Book {
             });
         }
         self.ledger.offers = held;
-        Done {
-            answer,
-            book: self,
-        }
+        Done { answer, book: self }
     }
 }

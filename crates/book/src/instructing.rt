@@ -153,10 +153,7 @@ impl Book {
             legs.set_state(leg, LegState::Withdrawn);
         }
         self.legs = legs;
-        Done {
-            answer,
-            book: self,
-        }
+        Done { answer, book: self }
     }
 
     // Records a party's wish to cancel; the second wish cancels what is outstanding.

@@ -6,7 +6,7 @@ use native.Mathlib.Numerals.{add-one}
 use mathlib.Core.Path.{◌≡◌, refl, sym, ap, ◌∙◌}
 use mathlib.Core.List.{List, [], ◌∷◌, ◌++◌, map, map-append, append_assoc, append-nil}
 use lib.ListN.{length, get_or, set, take, drop, length-append, length-take, length-drop}
-use lib.Seq.{sets, sets-eq, length-sets, take-suc, take_all, length-take-le}
+use lib.Seq.{sets, sets-eq, length-sets, take-suc, take_all, length-take-le, take-append_seam}
 use Rattle.std.proofs.lemmas.List.{drop-drop}
 use Rattle.basics.proofs.Stores.{sets_append}
 use Rattle.writing.specs.Digits.{digits_of}
@@ -42,6 +42,15 @@ wrote_then {xs} {ys} {out} {between} {after} {at} {next} {end} a b = record {
       ∙ sym (sets_append out at xs ys);
   place = omega (arith, a.place, b.place, length-append xs ys);
 }
+
+-- the bytes up to the next place are those that were ahead of the text, and the text
+pub wrote_shown : {xs out after : List ℕ} {at next : ℕ} → Wrote xs out at after next → at + length xs ≤ length out
+    → take next after ≡ take at out ++ xs
+wrote_shown {xs} {out} {after} {at} {next} w h =
+    let size : length (take at out ++ xs) ≡ at + length xs =
+    length-append (take at out) xs ∙ ap (λ (n : ℕ). n + length xs) (length-take-le at out (omega arith)) in
+    rw (w.place, w.stands, sets-eq xs out at h)
+    (rw size at (take-append_seam (take at out ++ xs) (drop (at + length xs) out)))
 
 -- the output has as many bytes as before
 pub wrote_length : {xs out after : List ℕ} {at next : ℕ} → Wrote xs out at after next → length after ≡ length out

@@ -188,23 +188,13 @@ impl<const N: usize> Output<N> {
         self.digits(z as u64);
     }
 
-    // Writes a space and a number.
-    fn spaced(&mut self, n: u64)
-        requires { length self.old + 21 ≤ N }
-        ensures { self.new ≡ self.old ++ space ∷ digits_of n }
-    {
-        self.byte(SPACE);
-        self.number(n);
-    }
-
-    // Writes numbers, with a space in front of each.
+    // Writes numbers, with a space in front of each. The place is counted in a local until all of them are written, since
+    // a place that is counted in the output takes a third more time for each number.
     pub fn further(&mut self, numbers: &[u64])
         requires { length self.old + 21 * length numbers.now ≤ N }
         ensures { self.new ≡ self.old ++ spaced (map digits_of numbers.now) }
     {
-        for n in numbers {
-            self.spaced(*n);
-        }
+        self.end = write_further(&mut self.bytes, self.end, numbers);
     }
 
     // Writes numbers, with one space between two.

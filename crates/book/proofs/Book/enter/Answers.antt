@@ -46,8 +46,7 @@ with_match-requires c =
 
 pub enter-requires : goal.enter-requires
 enter-requires c =
-    let here = (goal.at.enter-requires c).After-enter-allowed in
-    (
+    let here = (goal.at.enter-requires c).After-enter-allowed in (
       subst⁻¹ (λ (e : Result Entry Reason). Enterable e c.args.self.legs) c.entry-entry.ensures (entry_enterable _ c.requires (asked here) _ (fine here)),
       omega (arith, c.requires.ledger.few),
     )

@@ -1,18 +1,13 @@
--- There is room for one more number.
-use Rattle.std.proofs.Common.{arith, rules, sym, append-nil, length-take-le, take}
+-- The numbers stand at the end of what was written before.
+use Rattle.std.proofs.Common.{arith, rules}
 use Rattle.std.proofs.lemmas.Grind.{common_steps}
-use Rattle.writing.specs.Words.{spaced}
-use Rattle.writing.proofs.Writing.{spaced_more, spaced_most}
+use Rattle.writing.proofs.Writing.{spaced_most, wrote_shown}
 use Rattle.writing.proofs.Output.further.Goals as goal
 
-pub loop-n-init : goal.loop-n-init
-unfolding spaced
-loop-n-init g c = sym (append-nil _)
+pub invariant_of-self : goal.invariant_of-self
+invariant_of-self g c = grind (arith, common_steps, spaced_most c.args.numbers.now, c.write_further-self-inside.ensures.place)
 
-pub spaced-requires : goal.spaced-requires
-spaced-requires g c =
-    let most = spaced_most (take c.loop-n.n-index c.args.numbers.now) in
-    (search rules, grind (arith, common_steps, most, length-take-le c.loop-n.n-index c.args.numbers.now (omega arith)))
-
-pub loop-n-preserved : goal.loop-n-preserved
-loop-n-preserved g c = rw (spaced_more c.args.numbers.now c.loop-n.n-index (omega arith)) (grind (arith, common_steps))
+pub returns : goal.returns
+returns g c =
+    let told = wrote_shown c.write_further-self-inside.ensures (grind (arith, common_steps, spaced_most c.args.numbers.now)) in
+    grind (arith, common_steps, told)
