@@ -226,10 +226,11 @@ fn tell_over<const N: usize>(feed: Feed, line: &[u8], out: &mut Output<N>)
 // complete. If the turns ran out, only the answers so far are left to write.
 pub fn tell_last<const N: usize>(flow: Flow, line: &[u8], out: &mut Output<N>)
     requires { (flow.feed.held ≤ length line.now) × (most_answer ≤ N) }
-    ensures { out.new ≡ last_text flow line.now out.old }
+    ensures upper_bound { length out.new ≤ N }
+    ensures out_after { out.new ≡ last_text flow line.now out.old }
 {
     match flow.course {
-        Course::Going => {}
+        Course::Going => out.keep(),
         Course::Over => {
             out.clear();
             tell_over(flow.feed, line, out);

@@ -47,6 +47,7 @@ fn settle_all<const N: usize>(
     out: &mut Output<N>,
 )
     requires { Buffers line.old numbers.old words.old N }
+    ensures upper_bound { length out.new ≤ N }
     ensures plays_in { PlaysIn (begins part.old line.old numbers.old words.old N)
         part.new line.new numbers.new words.new N out.new }
 {

@@ -157,6 +157,7 @@ loop-preserved g c =
 
 pub returns : goal.returns
 returns g c = record {
+  upper_bound = c.tell_last.ensures.upper_bound;
   plays_in = record {
     book = c.loop.played.book;
     flow = c.loop.flow;
@@ -167,6 +168,6 @@ returns g c = record {
           | then-loop-test+then-not-goes_on w ↦ absurd (never (sym w.if-not-goes_on.true ∙ w.goes_on.ensures.1 going))
         ])
         c.loop.invariant.stands;
-    last = c.tell_last.ensures;
+    last = c.tell_last.ensures.out_after;
   };
 }
