@@ -120,9 +120,11 @@ impl Book {
             amount,
             day,
         };
+        // The number of legs is read from the book and not from the copy of the legs. By this read the compiler keeps
+        // the legs and the obligations apart, so that a call copies only the one of the two that it changes.
+        let number = self.legs.count;
         let mut legs = self.legs;
         let closed_days = self.setup.closed_days;
-        let number = legs.count;
         let obligations = self.ledger.count as u64;
         let allowed = refusals::enter(&closed_days, self.day.today, number, asked);
         let entry = legs.entry(allowed, asked);

@@ -123,8 +123,10 @@ pub fn deliver_of(today: Day, found: Obligation, quantity: u64) -> Result<(), Re
     Ok(())
 }
 
-// The refusals of an offer by its own numbers.
+// The refusals of an offer by its own numbers. They and those of `offer_of` are not inlined, because each refusal would
+// be one more way through an Offer. With so many ways the compiler copies the whole book in and out.
 #[tactic(auto, unfolding(crate::specs::Calls::offer_refusals_in), using(basics::proofs::Refusals::pass, basics::proofs::Refusals::stop, basics::proofs::Refusals::all_passed))]
+#[inline(never)]
 pub fn offer_in(supplier: u64, quantity: u64, price: u64) -> Result<(), Reason>
     ensures { answer_of result ≡ answer (offer_refusals_in supplier quantity price) }
 {
@@ -150,6 +152,7 @@ fn is_not_in_buy_in(terms: Terms, today: Day, age: ClearingDays, found: Obligati
 
 // The refusals of an offer for a fetched obligation with its age, in a book with this many offers.
 #[tactic(auto, unfolding(crate::specs::Calls::offer_refusals_of), using(basics::proofs::Refusals::pass, basics::proofs::Refusals::stop, basics::proofs::Refusals::all_passed))]
+#[inline(never)]
 pub fn offer_of(
     terms: Terms,
     today: Day,
