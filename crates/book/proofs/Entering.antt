@@ -2,12 +2,13 @@
 use Rattle.std.specs.Prelude.{Some, None, Result, Ok, Err}
 use Rattle.basics.specs.declared.Reason.{Reason}
 use Rattle.basics.specs.Refusals.{outcome}
-use Rattle.basics.specs.Reasons.{number_of, answer_of}
+use Rattle.basics.specs.Reasons.{answer_of}
 use Rattle.basics.proofs.Reasons.{number_eqb}
 use mathlib.Core.Path.{◌≡◌, refl}
 use Rattle.instructions.specs.declared.Instruction.{Instruction}
 use Rattle.instructions.specs.declared.Entry.{Entry}
 use Rattle.instructions.specs.declared.Leg.{Leg}
+use Rattle.instructions.specs.declared.Legs.{Legs}
 use Rattle.instructions.specs.Legs.{leg_of}
 use Rattle.instructions.specs.Match.{Fit, lowest_fit}
 use Rattle.instructions.specs.Entry.{entry_by, entry_of, Enterable}
@@ -35,6 +36,20 @@ module _ (b : Book) (v : Valid b) (i : Instruction) where
 
   pub entry_matchable : (a : Result Unit Reason) → (answer_of a ≡ 0 → Good b v (leg_of i)) → Matchable (entry_of b.legs a i) b.ledger
   entry_matchable a fine = (places a fine).matchable
+
+-- an Enter that comes to an entry was allowed, and the entry is that of the search
+pub record Found (s : Legs) (a : Result Unit Reason) (i : Instruction) (e : Entry) : Type 0 where
+  pub allowed : answer_of a ≡ 0
+  pub found : e ≡ entry_by (leg_of i) (lowest_fit s (leg_of i))
+
+pub found_of : (s : Legs) (a : Result Unit Reason) (i : Instruction) (e : Entry) → entry_of s a i ≡ Ok e → Found s a i e
+found_of s (Ok allowed) i e p = record { allowed = refl; found = cc }
+found_of s (Err reason) i e p = absurd cc
+
+-- an Enter that comes to a refusal was refused for this reason
+pub refused_of : (s : Legs) (a : Result Unit Reason) (i : Instruction) (r : Reason) → entry_of s a i ≡ Err r → a ≡ Err r
+refused_of s (Ok allowed) i r p = absurd cc
+refused_of s (Err reason) i r p = cc
 
 -- what an accepted Enter returns
 pub enters : (b : Book) (new : Leg) (f : Fit) → enter_returns b (Ok (entry_by new f)) ≡ entered_by b new f
